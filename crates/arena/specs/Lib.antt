@@ -1,0 +1,5 @@
+pub mod Bounds
+pub mod Records
+pub mod Stored
+pub mod StoredBounds
+pub mod MirrorBounds

@@ -1,0 +1,10 @@
+use mathlib.Core.Path.{_≡_}
+use mathlib.Core.Bool.{true}
+use Prim.Native.Nat.{ℕ, _<_}
+use lib.ListN.{getD}
+use Rattle.game.specs.Outcomes.{blank}
+use Rattle.game.specs.Filling.{is-behind}
+use Rattle.game.proofs.ranks.all_behind.Given as given
+
+abbrev pub Inv-loop-i : given.InvT-loop-i
+Inv-loop-i g l = (k : ℕ) → k < l .i → is-behind (l .p) (l .d) (getD (l .out) (g .X·Arena .meaning (l .arena) .successor (l .v) k) blank) ≡ true

@@ -1,0 +1,8 @@
+// Solves any arena: who wins each vertex, and by which move.
+mod moves;
+mod outcome;
+mod ranks;
+mod solver;
+
+pub use outcome::Outcome;
+pub use solver::solve;

@@ -1,0 +1,16 @@
+pub mod Players
+pub mod Below
+pub mod Size
+pub mod Pull
+pub mod Saturate
+pub mod Graded
+pub mod Unique
+pub mod Rounds
+pub mod Crowd
+pub mod Moves
+pub mod Stutter
+pub mod Won
+pub mod Duel
+pub mod Determined
+pub mod Check
+pub mod Mirrors

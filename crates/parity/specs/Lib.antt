@@ -1,0 +1,9 @@
+pub mod Player
+pub mod Below
+pub mod Game
+pub mod Play
+pub mod Grading
+pub mod Move
+pub mod Certificate
+pub mod Determinacy
+pub mod Mirror

@@ -1,4 +1,5 @@
 pub mod Bounds
+pub mod Known
 pub mod Records
 pub mod Stored
 pub mod StoredBounds

@@ -1,5 +1,4 @@
 -- The mirror keeps the bounds.
-use mathlib.Core.Path.{_≡_}
 use lib.Dec.{ltb}
 use Rattle.std.proofs.shelf.Tests.{cond-false, le-ltb}
 use Rattle.parity.specs.Game.{Game}

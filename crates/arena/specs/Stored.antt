@@ -13,6 +13,7 @@ use Rattle.refusal.specs.declared.Refusal.the-variants.{Length, VertexCount}
 use Rattle.parity.specs.Game.{Game}
 use Rattle.parity.specs.declared.player.Player.{Player}
 use Rattle.parity.specs.declared.player.Player.the-variants.{Zero, One}
+use Rattle.arena.specs.Known.{known}
 use Rattle.arena.specs.Records.{owner-byte, stored-priority, target, record-refusal}
 use Rattle.arena.specs.declared.stored.StoredFault.{StoredFault}
 use Rattle.arena.specs.declared.stored.RecordNumber.{RecordNumber}
@@ -57,4 +58,4 @@ stored-game b n = record {
 
 -- the place of a vertex is its record's number
 abbrev pub record-number : ℕ → ℕ → RecordNumber
-record-number n v = record { number = cond (ltb v n) v 0 }
+record-number n v = record { number = known n v }

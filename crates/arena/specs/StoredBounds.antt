@@ -1,15 +1,15 @@
 -- A stored arena keeps the bounds: what the questions about its records give.
-use mathlib.Core.Path.{_≡_, refl, ap, sym, subst, _∙_}
+use mathlib.Core.Path.{_≡_, refl, ap, subst, _∙_}
 use mathlib.Core.Bool.{Bool, true, false, cond, _&&_}
 use mathlib.Core.List.{List}
 use mathlib.Core.Logic.{inl, inr}
-use Prim.Native.Nat.{ℕ, _≤_, _<_, _+_, _*_}
+use Prim.Native.Nat.{ℕ, _≤_, _<_}
 use native.Mathlib.Omega.{arith}
 use lib.Dec.{ltb, leb, eqb}
 use Rattle.std.proofs.shelf.Tests.{cases-lt, cond-both, cond-false, le-ltb, ltb-true, cond-true, lt-ltb, ltb-false, leb-true, and-parts, both-ways}
-use Rattle.parity.specs.Game.{Game}
 use Rattle.arena.specs.Bounds.{Bounds}
-use Rattle.arena.specs.Records.{word, owner-byte, zero-byte, stored-priority, target, answered, record-refusal, is-none}
+use Rattle.arena.specs.Known.{known-elsewhere}
+use Rattle.arena.specs.Records.{owner-byte, zero-byte, stored-priority, target, answered, record-refusal, is-none}
 use Rattle.arena.specs.Stored.{stored-game, record-number}
 use Rattle.arena.specs.declared.stored.RecordNumber.{RecordNumber}
 
@@ -54,11 +54,7 @@ module _ (b : List ℕ) (n : ℕ) (each : (v : ℕ) → v < n → is-none (recor
 
 -- the place of a number that is no vertex is that of vertex 0
 pub stored-elsewhere : (n v : ℕ) → n ≤ v → record-number n v ≡ record-number n 0
-stored-elsewhere n v h = ap numbered (cond-false (ltb v n) v 0 (le-ltb v n h) ∙ sym (zero-both (ltb 0 n)))
+stored-elsewhere n v h = ap numbered (known-elsewhere n v h)
   where
     numbered : ℕ → RecordNumber
     numbered k = record { number = k }
-
-    zero-both : (t : Bool) → _≡_ {A = ℕ} (cond t 0 0) 0
-    zero-both true = refl
-    zero-both false = refl

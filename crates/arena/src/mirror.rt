@@ -1,5 +1,4 @@
 // The mirror of any arena: owners and even sides exchanged, all else kept.
-ghost use mathlib.Core.Path.{_≡_};
 ghost use Rattle.parity.specs.Mirror.{mirror};
 ghost use Rattle.arena.specs.MirrorBounds.{mirror-bounds};
 use crate::Arena;

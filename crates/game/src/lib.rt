@@ -5,4 +5,6 @@ mod ranks;
 mod solver;
 
 pub use outcome::Outcome;
+pub use outcome::OutcomeDebug;
+pub use outcome::OutcomePartialEq;
 pub use solver::solve;

@@ -7,7 +7,7 @@ use native.Mathlib.Omega.{arith}
 use lib.Dec.{eqb, leb, ltb}
 use Rattle.std.proofs.shelf.Tests.{cases-lt, cond-true, cond-false, and-parts, or-cases, eqb-true, eqb-false, ltb-true, leb-true, eq-eqb, not-true}
 use Rattle.parity.specs.Grading.{level}
-use Rattle.parity.specs.Game.{Game, favoured}
+use Rattle.parity.specs.Game.{Game, Sound, favoured}
 use Rattle.parity.specs.Player.{other, same}
 use Rattle.parity.specs.Below.{some-below, all-below}
 use Rattle.parity.proofs.Players.{same-true, true-same, false-same}
@@ -37,9 +37,9 @@ module _ (G : Game) (g δ : ℕ → ℕ) (v : ℕ) where
   unfoldable pub fits : Bool
   fits = at-low && at-keep && at-lower && (eqb (δ v) 0 || cond (same (G .owner v) (favoured G (g v))) at-mine at-theirs)
 
-  pub fits-local : fits ≡ true → Fits G g δ v
+  pub fits-from : fits ≡ true → Fits G g δ v
   unfolding fits
-  fits-local t = record {
+  fits-from t = record {
       low = leb-true _ _ (lows0 .0);
       base = λ z. eqb-true _ _ (beq (eqb (δ v) 0) (eqb (g v) (level G v)) (lows0 .1) .0 (eq-eqb _ _ z));
       top = λ z. eqb-true _ _ (beq (eqb (δ v) 0) (eqb (g v) (level G v)) (lows0 .1) .1 (eq-eqb _ _ z));
@@ -81,6 +81,20 @@ module _ (G : Game) (g δ : ℕ → ℕ) (v : ℕ) where
 unfoldable pub fits-all : Game → (ℕ → ℕ) → (ℕ → ℕ) → Bool
 fits-all G g δ = all-below (G .count) (fits G g δ)
 
-pub table-from : (G : Game) (g δ : ℕ → ℕ) → fits-all G g δ ≡ true → Certificate G g δ
+pub certificate-from : (G : Game) (g δ : ℕ → ℕ) → fits-all G g δ ≡ true → Certificate G g δ
 unfolding fits-all
-table-from G g δ t v v< = fits-local G g δ v (all-gives (G .count) (fits G g δ) t v v<)
+certificate-from G g δ t v v< = fits-from G g δ v (all-gives (G .count) (fits G g δ) t v v<)
+
+-- a test of Sound
+unfoldable pub sound-all : Game → Bool
+sound-all G = all-below (G .count) (λ v. ltb 0 (G .degree v) && all-below (G .degree v) (λ i. ltb (G .successor v i) (G .count)))
+
+pub sound-from : (G : Game) → sound-all G ≡ true → Sound G
+unfolding sound-all
+sound-from G t = record {
+    moves = λ v v<. ltb-true _ _ (and-parts _ _ (at v v<) .0);
+    stays = λ v i v< i<. ltb-true _ _ (all-gives (G .degree v) _ (and-parts _ _ (at v v<) .1) i i<);
+  }
+  where
+    at : (v : ℕ) → v < G .count → (ltb 0 (G .degree v) && all-below (G .degree v) (λ i. ltb (G .successor v i) (G .count))) ≡ true
+    at v v< = all-gives (G .count) _ t v v<

@@ -14,3 +14,4 @@ pub mod Duel
 pub mod Determined
 pub mod Check
 pub mod Mirrors
+pub mod Tabled

@@ -1,5 +1,4 @@
 // The answers of a stored arena.
-ghost use mathlib.Core.Path.{_≡_};
 ghost use Rattle.arena.specs.Stored.{stored-game, record-number};
 ghost use Rattle.arena.specs.StoredBounds.{stored-bounds, stored-elsewhere};
 use super::RecordNumber;

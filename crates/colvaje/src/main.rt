@@ -1,0 +1,43 @@
+// The program: solves weak parity games from files. It only reads, asks the library and prints.
+mod command;
+mod demo;
+mod failure;
+mod solving;
+
+use command::Command;
+use command::parse;
+use command::usage;
+use failure::Failure;
+use failure::FailureFromAllocError;
+use failure::FailureFromError;
+use failure::FailureFromRefused;
+use std::env;
+use std::io;
+
+// The words after the program's name.
+fn arguments(rt: &LibcRuntime) -> Result<Vec<String>, Failure> {
+    let mut words = Vec::new(rt.alloc());
+    for word in env::args(rt)?.skip(1) {
+        words.push(word)?;
+    }
+    Ok(words)
+}
+
+fn run(rt: &LibcRuntime) -> Result<(), Failure> {
+    let words = arguments(rt)?;
+    match parse(rt.alloc(), &words)? {
+        Command::Help => Ok(rt.print(usage())?),
+        Command::Demo => demo::run(rt),
+        Command::Solve { mirrored, file } => solving::solve_file(rt, mirrored, file.as_str()),
+    }
+}
+
+fn main(rt: LibcRuntime) -> io::Result<()> {
+    match run(&rt) {
+        Ok(()) => Ok(()),
+        Err(failure) => {
+            failure.print(&rt)?;
+            Err(io::Error::from(io::ErrorKind::Other))
+        }
+    }
+}

@@ -4,14 +4,14 @@ use crate::failure::FailureFromAllocError;
 use std::alloc::Global;
 
 #[derive(Drop)]
-pub enum Command {
+pub(crate) enum Command {
     Help,
     Demo,
     Solve { mirrored: bool, file: String },
 }
 
 // The command in the words after the program's name.
-pub fn parse(heap: Global, words: &[String]) -> Result<Command, Failure> {
+pub(crate) fn parse(heap: Global, words: &[String]) -> Result<Command, Failure> {
     let Some(name) = words.first() else {
         return Ok(Command::Demo);
     };
@@ -37,7 +37,7 @@ fn parse_solve(heap: Global, words: &[String]) -> Result<Command, Failure> {
     Ok(Command::Solve { mirrored, file })
 }
 
-pub fn usage() -> &'static str {
+pub(crate) fn usage() -> &'static str {
     "usage: colvaje [demo]                 solve the built-in examples
        colvaje solve FILE             who wins each vertex of the arena in FILE
        colvaje solve --mirror FILE    the same of its mirror

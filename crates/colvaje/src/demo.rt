@@ -12,7 +12,7 @@ const ATTRACTED: [u8; 24] = [
     1, 0, 5, 0, 1, 0, 2, 0, 0, 0, 0, 0, 1, 0, 1, 0, 0, 0, 5, 0, 1, 0, 1, 0,
 ];
 
-pub fn run(rt: &LibcRuntime) -> Result<(), Failure> {
+pub(crate) fn run(rt: &LibcRuntime) -> Result<(), Failure> {
     println!(rt, "Two vertices: 0 leads to 1, which keeps its priority 3 for ever.")?;
     println!(rt, "The smallest priority from 0 on is 2, so player 0 wins there.")?;
     solve_bytes(rt, false, &TWO)?;

@@ -7,7 +7,7 @@ use std::alloc::Refused;
 use std::io;
 
 #[derive(Drop)]
-pub enum Failure {
+pub(crate) enum Failure {
     // the arguments are no command
     Usage,
     // the file cannot be read
@@ -19,19 +19,19 @@ pub enum Failure {
     Memory,
 }
 
-pub impl From<io::Error> for Failure as FailureFromError {
+pub(crate) impl From<io::Error> for Failure as FailureFromError {
     fn from(error: io::Error) -> Self {
         Failure::Output(error)
     }
 }
 
-pub impl From<AllocError> for Failure as FailureFromAllocError {
+pub(crate) impl From<AllocError> for Failure as FailureFromAllocError {
     fn from(_error: AllocError) -> Self {
         Failure::Memory
     }
 }
 
-pub impl<T: Drop> From<Refused<T>> for Failure as FailureFromRefused {
+pub(crate) impl<T: Drop> From<Refused<T>> for Failure as FailureFromRefused {
     fn from(_refused: Refused<T>) -> Self {
         Failure::Memory
     }
@@ -39,7 +39,7 @@ pub impl<T: Drop> From<Refused<T>> for Failure as FailureFromRefused {
 
 impl Failure {
     // One line on standard error, or the usage.
-    pub fn print(self, rt: &LibcRuntime) -> io::Result<()> {
+    pub(crate) fn print(self, rt: &LibcRuntime) -> io::Result<()> {
         match self {
             Failure::Usage => eprint!(rt, "{}", usage()),
             Failure::Unreadable(file, error) => eprintln!(rt, "cannot read {file}: {error}"),

@@ -14,7 +14,7 @@ use parity::Player;
 use std::fs;
 use std::io;
 
-pub fn solve_file(rt: &LibcRuntime, mirrored: bool, file: &str) -> Result<(), Failure> {
+pub(crate) fn solve_file(rt: &LibcRuntime, mirrored: bool, file: &str) -> Result<(), Failure> {
     match fs::read(rt, file) {
         Ok(bytes) => solve_bytes(rt, mirrored, &bytes),
         Err(error) => {
@@ -25,7 +25,7 @@ pub fn solve_file(rt: &LibcRuntime, mirrored: bool, file: &str) -> Result<(), Fa
 }
 
 // Solves the arena in the bytes, or its mirror.
-pub fn solve_bytes(rt: &LibcRuntime, mirrored: bool, bytes: &[u8]) -> Result<(), Failure> {
+pub(crate) fn solve_bytes(rt: &LibcRuntime, mirrored: bool, bytes: &[u8]) -> Result<(), Failure> {
     match ask(bytes) {
         Ok(n) => {
             let arena = make(bytes, n);

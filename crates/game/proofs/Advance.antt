@@ -5,18 +5,30 @@ use mathlib.Core.List.{List}
 use Prim.Native.Nat.{ℕ, _<_, _≤_}
 use native.Mathlib.Omega.{arith}
 use lib.ListN.{getD}
-use Rattle.std.proofs.shelf.Tests.{cases-lt}
+use lib.Dec.{eqb}
+use Rattle.std.proofs.shelf.Tests.{cases-lt, cases-eq, cond-true, cond-false, eq-eqb, ne-eqb}
 use Rattle.std.specs.declared.option.Option.{Option}
 use Rattle.std.specs.declared.option.Option.the-variants.{None, Some}
 use Rattle.parity.specs.Game.{Game}
-use Rattle.parity.specs.Grading.{grade, distance}
+use Rattle.parity.specs.Grading.{level, grade, distance}
 use Rattle.parity.proofs.Graded.{graded}
 use Rattle.parity.proofs.Rounds.{skip}
 use Rattle.arena.specs.Bounds.{Bounds}
 use Rattle.game.specs.Outcomes.{blank}
-use Rattle.game.specs.Filling.{unset, ranked, Filled, Open, Least-open, or-end}
+use Rattle.game.specs.Filling.{open-level, unset, ranked, Filled, Open, Least-open, or-end}
 use Rattle.game.specs.declared.outcome.Outcome.{Outcome}
 use Rattle.game.proofs.Rounds.{sound-of, g-small, Reached, filled as filled-in, left as left-out, same-partly}
+
+-- the level of an open vertex
+pub open-is : (G : Game) (l : List Outcome) (v : ℕ) → getD l v blank .grade ≡ 65535 → open-level G l v ≡ level G v
+open-is G l v e = cond-true (eqb (getD l v blank .grade) 65535) _ _ (eq-eqb _ _ e)
+
+pub level-open : (G : Game) (l : List Outcome) (v : ℕ) → open-level G l v < 65535 → getD l v blank .grade ≡ 65535
+level-open G l v less =
+    elim (cases-eq (getD l v blank .grade) 65535) [
+      | inl e ↦ e
+      | inr n ↦ absurd (let e = cond-false (eqb (getD l v blank .grade) 65535) (level G v) 65535 (ne-eqb _ _ n) in omega arith)
+    ]
 
 module _ (G : Game) (b : Bounds G) where
   pub none-yet : (l : List Outcome) → ((v : ℕ) → v < G .count → getD l v blank ≡ unset) → Filled G 0 0 l

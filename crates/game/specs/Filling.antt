@@ -68,7 +68,11 @@ joins-now G l p d v =
 abbrev pub Open : Game → List Outcome → ℕ → Type 0
 Open G l v = (v < G .count) × (getD l v blank .grade ≡ 65535)
 
--- the least priority of an open vertex, if there is one
+-- the level of v while it is open, else a number past all levels
+abbrev pub open-level : Game → List Outcome → ℕ → ℕ
+open-level G l v = cond (eqb (getD l v blank .grade) 65535) (level G v) 65535
+
+-- the least level of an open vertex, if there is one
 abbrev pub Least-open : Game → List Outcome → Option ℕ → Type 0
 Least-open G l None = (v : ℕ) → Open G l v → ⊥
 Least-open G l (Some p) = ((v : ℕ) → Open G l v → p ≤ level G v) × ((v : ℕ) × Open G l v × (level G v ≡ p))

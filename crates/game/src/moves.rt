@@ -56,6 +56,14 @@ fn choice<X: Arena>(arena: &X, out: &[Outcome], v: usize) -> usize
     }
 }
 
+// The same in a byte: there are at most 16 positions.
+fn position<X: Arena>(arena: &X, out: &[Outcome], v: usize) -> u8
+    requires { ⌜ meaning (now arena) .count ≤ length (now out) ⌝ ∗ ⌜ v < meaning (now arena) .count ⌝ }
+    ensures { λ r. ⌜ r ≡ move-by (meaning (now (arena .entry))) (grade-in (now (out .entry))) (distance-in (now (out .entry))) v ⌝ }
+{
+    choice(arena, out, v) as u8
+}
+
 // The record of v with its winner and its move.
 fn finished<X: Arena>(arena: &X, out: &[Outcome], v: usize) -> Outcome
     requires { ⌜ meaning (now arena) .count ≤ length (now out) ⌝ ∗ ⌜ v < meaning (now arena) .count ⌝ }
@@ -66,12 +74,12 @@ fn finished<X: Arena>(arena: &X, out: &[Outcome], v: usize) -> Outcome
         winner: favours(arena, here.grade),
         grade: here.grade,
         distance: here.distance,
-        choice: choice(arena, out, v) as u8,
+        choice: position(arena, out, v),
     }
 }
 
 // Names the winner and the move of each vertex.
-pub fn finish<X: Arena>(arena: &X, out: &mut [Outcome])
+pub(crate) fn finish<X: Arena>(arena: &X, out: &mut [Outcome])
     requires room { ⌜ meaning (now arena) .count ≤ length (now out) ⌝ }
     requires ranked { ⌜ ((v : ℕ) → v < meaning (now arena) .count → getD (now out) v blank ≡ ranked (meaning (now arena)) v) ⌝ }
     ensures finished { λ _. ⌜ ((v : ℕ) → v < meaning (now (arena .entry)) .count → getD (now (out .exit)) v blank ≡ outcome (meaning (now (arena .entry))) v) ⌝ }

@@ -6,7 +6,7 @@ ghost use Rattle.parity.specs.Game.{favoured};
 ghost use Rattle.parity.specs.Below.{some-below};
 ghost use Rattle.parity.specs.Grading.{grade, distance};
 ghost use Rattle.game.specs.Outcomes.{blank};
-ghost use Rattle.game.specs.Filling.{unset, ranked, is-near, is-behind, some-near, all-behind, joins-now, Filled, gets, Kept, Least-open};
+ghost use Rattle.game.specs.Filling.{unset, ranked, is-near, is-behind, some-near, all-behind, joins-now, Filled, gets, Kept, open-level, Least-open};
 use arena::Arena;
 use crate::outcome::Outcome;
 use parity::Player;
@@ -16,7 +16,7 @@ use parity::PlayerPartialEq;
 pub const UNGRADED: u16 = 65535;
 
 // The player whom priority p favours.
-pub fn favours<X: Arena>(arena: &X, p: u16) -> Player
+pub(crate) fn favours<X: Arena>(arena: &X, p: u16) -> Player
     ensures { λ r. ⌜ r ≡ favoured (meaning (now (arena .entry))) p ⌝ }
 {
     let even = arena.even_side();
@@ -24,7 +24,7 @@ pub fn favours<X: Arena>(arena: &X, p: u16) -> Player
 }
 
 // Whether the record has grade p and a distance below d.
-pub fn near(o: Outcome, p: u16, d: u16) -> bool
+pub(crate) fn near(o: Outcome, p: u16, d: u16) -> bool
     ensures { λ r. ⌜ r ≡ is-near p d o ⌝ }
 {
     o.grade == p && o.distance < d
@@ -38,7 +38,7 @@ fn behind(o: Outcome, p: u16, d: u16) -> bool
 }
 
 // The record of the successor of v at position i.
-pub fn ahead<X: Arena>(arena: &X, out: &[Outcome], v: usize, i: usize) -> Outcome
+pub(crate) fn ahead<X: Arena>(arena: &X, out: &[Outcome], v: usize, i: usize) -> Outcome
     requires { ⌜ meaning (now arena) .count ≤ length (now out) ⌝ }
     ensures { λ r. ⌜ r ≡ getD (now (out .entry)) (meaning (now (arena .entry)) .successor v i) blank ⌝ }
 {
@@ -142,6 +142,18 @@ fn clear(out: &mut [Outcome], n: usize)
     }
 }
 
+// The priority of v while it has no grade, else UNGRADED. A graded vertex is not asked about.
+fn open_priority<X: Arena>(arena: &X, out: &[Outcome], v: usize) -> u16
+    requires { ⌜ meaning (now arena) .count ≤ length (now out) ⌝ ∗ ⌜ v < meaning (now arena) .count ⌝ }
+    ensures { λ r. ⌜ r ≡ open-level (meaning (now (arena .entry))) (now (out .entry)) v ⌝ }
+{
+    if out[v].grade == UNGRADED {
+        arena.priority(v)
+    } else {
+        UNGRADED
+    }
+}
+
 // The least priority of a vertex that has no grade yet, if there is one.
 fn least_open<X: Arena>(arena: &X, out: &[Outcome]) -> Option<u16>
     requires { ⌜ meaning (now arena) .count ≤ length (now out) ⌝ }
@@ -149,8 +161,8 @@ fn least_open<X: Arena>(arena: &X, out: &[Outcome]) -> Option<u16>
 {
     let mut least = UNGRADED;
     for v in 0..arena.count() {
-        let p = arena.priority(v);
-        if out[v].grade == UNGRADED && p < least {
+        let p = open_priority(arena, out, v);
+        if p < least {
             least = p;
         }
     }
@@ -158,7 +170,7 @@ fn least_open<X: Arena>(arena: &X, out: &[Outcome]) -> Option<u16>
 }
 
 // Gives each vertex its grade and distance.
-pub fn rank<X: Arena>(arena: &X, out: &mut [Outcome])
+pub(crate) fn rank<X: Arena>(arena: &X, out: &mut [Outcome])
     requires { ⌜ meaning (now arena) .count ≤ length (now out) ⌝ }
     ensures ranked { λ _. ⌜ ((v : ℕ) → v < meaning (now (arena .entry)) .count → getD (now (out .exit)) v blank ≡ ranked (meaning (now (arena .entry))) v) ⌝ }
     ensures kept { λ _. ⌜ Kept (meaning (now (arena .entry)) .count) (now (out .entry)) (now (out .exit)) ⌝ }

@@ -3,7 +3,7 @@ use std::alloc::AllocError;
 use std::alloc::Global;
 
 // The record of a vertex.
-pub fn vertex(owner: u8, priority: u16, left: u16, right: u16) -> [u8; 8] {
+pub(crate) fn vertex(owner: u8, priority: u16, left: u16, right: u16) -> [u8; 8] {
     let p = priority.to_le_bytes();
     let l = left.to_le_bytes();
     let r = right.to_le_bytes();
@@ -11,7 +11,7 @@ pub fn vertex(owner: u8, priority: u16, left: u16, right: u16) -> [u8; 8] {
 }
 
 // The records one after another.
-pub fn joined(heap: Global, vertices: &[[u8; 8]]) -> Result<Vec<u8>, AllocError> {
+pub(crate) fn joined(heap: Global, vertices: &[[u8; 8]]) -> Result<Vec<u8>, AllocError> {
     let mut bytes = Vec::new(heap);
     for v in vertices {
         bytes.extend_from_slice(v)?;
@@ -20,7 +20,7 @@ pub fn joined(heap: Global, vertices: &[[u8; 8]]) -> Result<Vec<u8>, AllocError>
 }
 
 // Many vertices that all lead to vertex 0.
-pub fn alike(heap: Global, count: usize) -> Result<Vec<u8>, AllocError> {
+pub(crate) fn alike(heap: Global, count: usize) -> Result<Vec<u8>, AllocError> {
     let mut bytes = Vec::new(heap);
     for _ in 0..count {
         bytes.extend_from_slice(&vertex(0, 0, 0, 0))?;

@@ -10,7 +10,7 @@ use super::StoredFault;
 use refusal::Refusal;
 
 // The number in two bytes, the low one first.
-pub fn word_at(bytes: &[u8], i: usize) -> u16
+pub(crate) fn word_at(bytes: &[u8], i: usize) -> u16
     requires { ⌜ i + 2 ≤ length (now bytes) ⌝ }
     ensures { λ r. ⌜ r ≡ word (now (bytes .entry)) i ⌝ }
 {

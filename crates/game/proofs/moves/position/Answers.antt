@@ -3,7 +3,7 @@ use native.Mathlib.Omega.{arith}
 use borrow.Author.Needs.{needs}
 use Rattle.parity.proofs.Moves.{move-le}
 use Rattle.game.specs.LastPass.{grade-in, distance-in}
-use Rattle.game.proofs.moves.finished.Needs as need
+use Rattle.game.proofs.moves.position.Needs as need
 
 pub cast-result : need.cast-result
 cast-result g c =

@@ -1,22 +1,15 @@
 -- Tests over the successors, and the two players as numbers.
 use mathlib.Core.Path.{_≡_, refl}
-use mathlib.Core.Logic.{inl, inr}
 use mathlib.Core.Bool.{Bool, true, false, _||_}
 use native.Mathlib.Numerals.{add-one}
-use Prim.Native.Nat.{ℕ, _+_, _-_, _%_, _<_}
+use Prim.Native.Nat.{ℕ, _+_, _-_, _%_}
 use native.Mathlib.Omega.{arith}
 use lib.Dec.{eqb}
-use Rattle.std.proofs.shelf.Tests.{cases-bool, both-ways, cond-true, cond-false, eq-eqb, ne-eqb}
+use Rattle.std.proofs.shelf.Tests.{cond-true, cond-false, eq-eqb, ne-eqb}
 use Rattle.parity.specs.Game.{Game, favoured}
 use Rattle.parity.specs.Player.{other}
-use Rattle.parity.specs.Below.{some-below, all-below}
-use Rattle.parity.proofs.Below.{some-gives, some-from, all-gives}
-
-pub none-below : (n : ℕ) (f : ℕ → Bool) → ((k : ℕ) → k < n → f k ≡ false) → some-below n f ≡ false
-none-below n f h = elim (cases-bool (some-below n f)) [ inl e ↦ absurd (let r = some-gives n f e in both-ways _ (h (r .0) (r .1)) (r .2)) | inr e ↦ e ]
-
-pub not-all : (n : ℕ) (f : ℕ → Bool) (k : ℕ) → k < n → f k ≡ false → all-below n f ≡ false
-not-all n f k h e = elim (cases-bool (all-below n f)) [ inl t ↦ absurd (both-ways _ e (all-gives n f t k h)) | inr t ↦ t ]
+use Rattle.parity.specs.Below.{some-below}
+use Rattle.parity.proofs.Below.{some-from}
 
 pub favoured-even : (G : Game) (p : ℕ) → p % 2 ≡ 0 → favoured G p ≡ G .even-side
 unfolding favoured

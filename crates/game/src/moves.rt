@@ -6,11 +6,11 @@ ghost use Rattle.parity.specs.Move.{move-by};
 ghost use Rattle.game.specs.Outcomes.{blank, outcome};
 ghost use Rattle.game.specs.Filling.{ranked, Kept};
 ghost use Rattle.game.specs.LastPass.{grade-in, distance-in, first-nearer, first-up, finished-by};
-use arena::Arena;
 use crate::outcome::Outcome;
 use crate::ranks::ahead;
 use crate::ranks::favours;
 use crate::ranks::near;
+use arena::Arena;
 use parity::PlayerPartialEq;
 
 // The least position at v that leads to the same grade and a smaller distance, or the degree.

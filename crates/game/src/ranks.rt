@@ -7,8 +7,8 @@ ghost use Rattle.parity.specs.Below.{some-below};
 ghost use Rattle.parity.specs.Grading.{grade, distance};
 ghost use Rattle.game.specs.Outcomes.{blank};
 ghost use Rattle.game.specs.Filling.{unset, ranked, is-near, is-behind, some-near, all-behind, joins-now, Filled, gets, Kept, open-level, Least-open};
-use arena::Arena;
 use crate::outcome::Outcome;
+use arena::Arena;
 use parity::Player;
 use parity::PlayerPartialEq;
 

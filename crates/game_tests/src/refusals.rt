@@ -69,7 +69,10 @@ fn first_fault_first(rt: LibcRuntime) -> Result<(), Fail> {
     check_eq(ask(&vertex(0, 10000, 9, 9)), at(Refusal::VertexPriority, 0))?;
     // faults in several records: the first record decides
     let three = [vertex(0, 1, 0, 0), vertex(0, 1, 0, 3), vertex(2, 1, 0, 0)];
-    check_eq(ask(&joined(rt.alloc(), &three)?), at(Refusal::VertexTarget, 1))?;
+    check_eq(
+        ask(&joined(rt.alloc(), &three)?),
+        at(Refusal::VertexTarget, 1),
+    )?;
     // a fault of the whole comes before any record's
     let bytes = joined(rt.alloc(), &[vertex(2, 1, 0, 0), vertex(0, 1, 0, 0)])?;
     check(bytes.len() == 16)?;

@@ -90,3 +90,9 @@ least-cong (suc n) f f′ h =
 
 pub no-from : {P : Type 0} (r : Bool) → Decides r P → (P → ⊥) → r ≡ false
 no-from r d n = elim (cases-bool r) [ inl e ↦ absurd (n (d .0 e)) | inr e ↦ e ]
+
+pub none-below : (n : ℕ) (f : ℕ → Bool) → ((k : ℕ) → k < n → f k ≡ false) → some-below n f ≡ false
+none-below n f h = elim (cases-bool (some-below n f)) [ inl e ↦ absurd (let r = some-gives n f e in both-ways _ (h (r .0) (r .1)) (r .2)) | inr e ↦ e ]
+
+pub not-all : (n : ℕ) (f : ℕ → Bool) (k : ℕ) → k < n → f k ≡ false → all-below n f ≡ false
+not-all n f k h e = elim (cases-bool (all-below n f)) [ inl t ↦ absurd (both-ways _ e (all-gives n f t k h)) | inr t ↦ t ]

@@ -15,3 +15,5 @@ pub mod Determined
 pub mod Check
 pub mod Mirrors
 pub mod Tabled
+pub mod Parities
+pub mod Transfer

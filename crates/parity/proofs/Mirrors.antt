@@ -1,5 +1,6 @@
--- The grading of a game is one of its mirror.
+-- The grading of a game is one of its mirror, and its winners are the other ones.
 use mathlib.Core.Path.{_≡_, refl, sym, ap, ap₂, _∙_}
+use mathlib.Core.Logic.{inl}
 use mathlib.Core.Bool.{Bool, true, false, cond, _&&_}
 use Prim.Native.Nat.{ℕ, _<_, _%_}
 use lib.Dec.{eqb, ltb, leb}
@@ -7,7 +8,7 @@ use Rattle.parity.specs.Game.{Game, Sound, favoured}
 use Rattle.parity.specs.declared.player.Player.{Player}
 use Rattle.parity.specs.declared.player.Player.the-variants.{Zero, One}
 use Rattle.parity.specs.Player.{other, same}
-use Rattle.parity.specs.Grading.{grade, distance}
+use Rattle.parity.specs.Grading.{grade, distance, winner}
 use Rattle.parity.specs.Move.{move-by}
 use Rattle.parity.specs.Below.{least}
 use Rattle.parity.specs.Mirror.{mirror, Mirrored}
@@ -17,6 +18,7 @@ use Rattle.std.proofs.shelf.Tests.{cond-true, lt-ltb}
 use Rattle.parity.proofs.Unique.{grade-is, distance-is}
 use Rattle.parity.proofs.Graded.{graded}
 use Rattle.parity.proofs.Moves.{move-same}
+use Rattle.parity.proofs.Transfer.{Alike, Carries, transfer}
 
 cond-other : (b : Bool) (x y : Player) → cond b (other x) (other y) ≡ other (cond b x y)
 cond-other true x y = refl
@@ -66,6 +68,22 @@ module _ (G : Game) (v : ℕ) (v< : v < G .count) where
 mirror-sound : (G : Game) → Sound G → Sound (mirror G)
 mirror-sound G s = record { moves = s .moves; stays = s .stays }
 
+mirror-alike : (G : Game) → Alike G (mirror G) other (λ u. u) (λ u k. k)
+mirror-alike G = record {
+  inside = λ u u<. u<;
+  owners = λ u u<. inl (owner-mirror G u u<);
+  forth = λ u j u< l. (j, l, refl);
+  back = λ u k u< l. (l, refl);
+}
+
+mirror-carries : (G : Game) (v : ℕ) → Carries G (mirror G) other (λ u. u) v
+mirror-carries G v x π _ _ win i against =
+    let w = win i (same-other _ _ (sym (favoured-mirror G (G .priority (π i))) ∙ against)) in
+    (w .0, w .1, favoured-mirror G (G .priority (π (w .0))) ∙ ap other (w .2))
+
+mirror-winner : (G : Game) → Sound G → (v : ℕ) → v < G .count → winner (mirror G) v ≡ other (winner G v)
+mirror-winner G s v v< = transfer G (mirror G) s (mirror-sound G s) other (λ u. u) (λ u k. k) (mirror-alike G) v v< (mirror-carries G v)
+
 pub mirrored : Mirrored
 mirrored G sound v v< =
     let s = mirror-sound G sound in
@@ -74,6 +92,6 @@ mirrored G sound v v< =
     let ed = distance-is (mirror G) s (grade G) (distance G) t in (
       eg v v<,
       ed v v<,
-      favoured-mirror G (grade (mirror G) v) ∙ ap (λ p. other (favoured G p)) (eg v v<),
+      mirror-winner G sound v v<,
       move-same (mirror G) s _ _ _ _ eg ed v v< ∙ mirror-move G v v< (grade G) (distance G),
     )

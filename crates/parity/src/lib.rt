@@ -11,11 +11,9 @@ pub use player::PlayerPartialEq;
 // Every finite game in which each vertex has a move is determined, with the reported moves.
 pub fn determinacy()
     ensures { λ _. ⌜ Determinacy ⌝ }
-{
-}
+{}
 
 // The mirror of a game has the same grades, distances and moves, and the other winners.
 pub fn mirrored()
     ensures { λ _. ⌜ Mirrored ⌝ }
-{
-}
+{}

@@ -1,5 +1,6 @@
 // A ring of stations. At each the owner keeps the token or hands it to the next station.
 ghost use Prim.Native.Nat.{_≤_};
+
 mod answers;
 
 #[derive(Clone, Copy)]

@@ -4,5 +4,4 @@ ghost use Rattle.worked_examples.specs.Worked.{Worked};
 // The answers of all worked examples.
 pub fn worked()
     ensures { λ _. ⌜ Worked ⌝ }
-{
-}
+{}

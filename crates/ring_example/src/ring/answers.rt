@@ -48,11 +48,7 @@ pub impl Arena for Ring as RingArena {
     }
 
     fn priority(&self, v: usize) -> u16 {
-        if v < self.stations {
-            (v % 7) as u16
-        } else {
-            0
-        }
+        if v < self.stations { (v % 7) as u16 } else { 0 }
     }
 
     fn degree(&self, v: usize) -> usize {

@@ -1,7 +1,6 @@
 use mathlib.Core.Path.{sym}
 use native.Mathlib.Omega.{arith}
-use Rattle.parity.proofs.Below.{all-from}
-use Rattle.game.proofs.Walks.{not-all}
+use Rattle.parity.proofs.Below.{all-from, not-all}
 use Rattle.game.proofs.ranks.all_behind.Needs as need
 
 pub returns-then-not-behind : need.returns-then-not-behind

@@ -1,7 +1,6 @@
 use mathlib.Core.Path.{sym}
 use native.Mathlib.Omega.{arith}
-use Rattle.parity.proofs.Below.{some-from}
-use Rattle.game.proofs.Walks.{none-below}
+use Rattle.parity.proofs.Below.{some-from, none-below}
 use Rattle.game.proofs.ranks.some_near.Needs as need
 
 pub returns-then-near : need.returns-then-near

@@ -16,8 +16,8 @@ returns-then-out-count g c = record {
 pub returns : need.returns
 returns g c = record {
   solved =
-    solved-is (g .X·Arena .meaning (c .args .arena .now)) (c .args .out .now) _ (omega arith) (omega arith) (c .finish .ensures .finished)
-    (λ v h. c .finish .ensures .kept v h ∙ c .rank .ensures .kept v h);
+      solved-is (g .X·Arena .meaning (c .args .arena .now)) (c .args .out .now) _ (omega arith) (omega arith) (c .finish .ensures .finished)
+      (λ v h. c .finish .ensures .kept v h ∙ c .rank .ensures .kept v h);
   reported = λ _. reports _ (sound-of _ (g .X·Arena .bounds (c .args .arena .now))) _ (c .finish .ensures .finished);
   determined = theorem.determinacy (g .X·Arena .meaning (c .args .arena .now)) (sound-of _ (g .X·Arena .bounds (c .args .arena .now)));
 }

@@ -1,0 +1,19 @@
+-- The lemmas, those that others cite first.
+pub mod Formed
+pub mod Moved
+pub mod Segments
+pub mod Passage
+pub mod WordArena
+pub mod Sets
+pub mod RunWins
+pub mod WinRuns
+pub mod Tables
+pub mod Folds
+pub mod WordGames
+pub mod Insides
+pub mod Accepted
+pub mod Dual
+pub mod Turned
+pub mod WordBounded
+pub mod Rest
+pub mod AnySets

@@ -1,0 +1,4 @@
+pub mod Asked
+pub mod Rows
+pub mod Judging
+pub mod Opposed

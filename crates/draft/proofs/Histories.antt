@@ -19,8 +19,7 @@ use Rattle.draft.specs.Automaton.{Automaton, empty, state-count, node-count}
 use Rattle.draft.specs.Calls.{letters-fit, begin-with, add-state, add-node, add-leaf, are-nodes, add-either, add-both, set-rule, set-priority, can-turn, turn-over}
 use Rattle.draft.specs.Records.{decoded, called}
 use Rattle.draft.specs.Load.{Loaded, make-call, take-record, onward, take-records, load-file}
-use Rattle.draft.specs.History.{begin, call, load, then, Histories-keep}
-use Rattle.game.proofs.Finish.{new}
+use Rattle.draft.specs.History.{begin, call, load, new, then, Histories-keep}
 use Rattle.draft.specs.WellFormed.{Well-formed, Fits}
 use Rattle.draft.proofs.Keeps.{empty-keeps, state-keeps, node-keeps, rule-keeps, priority-keeps, turn-keeps}
 

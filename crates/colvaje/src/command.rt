@@ -1,6 +1,7 @@
 // What the program is asked to do.
 use crate::failure::Failure;
 use crate::failure::FailureFromAllocError;
+use crate::failure::FailureFromRefused;
 use std::alloc::Global;
 
 #[derive(Drop)]
@@ -8,6 +9,26 @@ pub(crate) enum Command {
     Help,
     Demo,
     Solve { mirrored: bool, file: String },
+    Show(Source),
+    Turn { source: Source, out: String },
+    Accept(Question),
+}
+
+// A draft file, and the number of letters with which it is loaded.
+#[derive(Drop)]
+pub(crate) struct Source {
+    pub(crate) letters: u32,
+    pub(crate) file: String,
+}
+
+// Whether a draft accepts a word from a state, and whether the reason is wanted.
+#[derive(Drop)]
+pub(crate) struct Question {
+    pub(crate) source: Source,
+    pub(crate) state: usize,
+    pub(crate) prefix: Vec<u8>,
+    pub(crate) period: Vec<u8>,
+    pub(crate) why: bool,
 }
 
 // The command in the words after the program's name.
@@ -20,6 +41,9 @@ pub(crate) fn parse(heap: Global, words: &[String]) -> Result<Command, Failure> 
         "demo" if rest.is_empty() => Ok(Command::Demo),
         "--help" | "-h" | "help" => Ok(Command::Help),
         "solve" => parse_solve(heap, rest),
+        "show" => parse_show(heap, rest),
+        "turn" => parse_turn(heap, rest),
+        "accept" => parse_accept(heap, rest),
         _ => Err(Failure::Usage),
     }
 }
@@ -30,19 +54,103 @@ fn parse_solve(heap: Global, words: &[String]) -> Result<Command, Failure> {
         [flag, file] if flag.as_str() == "--mirror" => (true, file.as_str()),
         _ => return Err(Failure::Usage),
     };
-    if file.starts_with("--") {
-        return Err(Failure::Usage);
-    }
-    let file = String::from_str(heap, file)?;
+    let file = file_name(heap, file)?;
     Ok(Command::Solve { mirrored, file })
 }
 
-pub(crate) fn usage() -> &'static str {
-    "usage: colvaje [demo]                 solve the built-in examples
-       colvaje solve FILE             who wins each vertex of the arena in FILE
-       colvaje solve --mirror FILE    the same of its mirror
-       colvaje --help                 this text
+fn parse_show(heap: Global, words: &[String]) -> Result<Command, Failure> {
+    match words {
+        [letters, file] => Ok(Command::Show(parse_source(heap, letters.as_str(), file.as_str())?)),
+        _ => Err(Failure::Usage),
+    }
+}
 
-A line of the answer has five whole numbers: vertex, winner, grade, distance, move.
+fn parse_turn(heap: Global, words: &[String]) -> Result<Command, Failure> {
+    match words {
+        [letters, file, out] => {
+            let source = parse_source(heap, letters.as_str(), file.as_str())?;
+            let out = file_name(heap, out.as_str())?;
+            Ok(Command::Turn { source, out })
+        }
+        _ => Err(Failure::Usage),
+    }
+}
+
+fn parse_accept(heap: Global, words: &[String]) -> Result<Command, Failure> {
+    match words {
+        [why, rest @ ..] if why.as_str() == "--why" => parse_question(heap, rest, true),
+        _ => parse_question(heap, words, false),
+    }
+}
+
+fn parse_question(heap: Global, words: &[String], why: bool) -> Result<Command, Failure> {
+    match words {
+        [letters, file, state, prefix, period] => {
+            let source = parse_source(heap, letters.as_str(), file.as_str())?;
+            let state = number(state.as_str())? as usize;
+            let prefix = word(heap, prefix.as_str())?;
+            let period = word(heap, period.as_str())?;
+            Ok(Command::Accept(Question {
+                source,
+                state,
+                prefix,
+                period,
+                why,
+            }))
+        }
+        _ => Err(Failure::Usage),
+    }
+}
+
+fn parse_source(heap: Global, letters: &str, file: &str) -> Result<Source, Failure> {
+    let letters = number(letters)?;
+    let file = file_name(heap, file)?;
+    Ok(Source { letters, file })
+}
+
+fn file_name(heap: Global, word: &str) -> Result<String, Failure> {
+    if word.starts_with("--") {
+        return Err(Failure::Usage);
+    }
+    Ok(String::from_str(heap, word)?)
+}
+
+fn number(word: &str) -> Result<u32, Failure> {
+    match word.parse::<u32>() {
+        Ok(n) => Ok(n),
+        Err(_) => Err(Failure::Usage),
+    }
+}
+
+// A word typed one hexadecimal digit a letter.
+fn word(heap: Global, text: &str) -> Result<Vec<u8>, Failure> {
+    let mut letters = Vec::new(heap);
+    for digit in text.bytes() {
+        letters.push(letter(digit)?)?;
+    }
+    Ok(letters)
+}
+
+fn letter(digit: u8) -> Result<u8, Failure> {
+    match digit {
+        b'0'..=b'9' => Ok(digit - b'0'),
+        b'a'..=b'f' => Ok(digit - b'a' + 10),
+        b'A'..=b'F' => Ok(digit - b'A' + 10),
+        _ => Err(Failure::Usage),
+    }
+}
+
+pub(crate) fn usage() -> &'static str {
+    "usage: colvaje [demo]                            the built-in examples
+       colvaje solve [--mirror] FILE             who wins each vertex of the arena in FILE, or of its mirror
+       colvaje show LETTERS FILE                 the draft in FILE, for a person
+       colvaje turn LETTERS FILE OUT             writes the dual of the draft in FILE to OUT
+       colvaje accept [--why] LETTERS FILE STATE PREFIX PERIOD
+                                                 whether the draft accepts PREFIX followed by PERIOD for ever
+       colvaje --help                            this text
+
+LETTERS is a number from 1 to 16. A word is typed one hexadecimal digit a letter; \"\" is the empty prefix.
+solve prints a line a vertex, five whole numbers: vertex, winner, grade, distance, move.
+accept ends with status 0 exactly when the last line is 'accepted'.
 "
 }

@@ -1,8 +1,12 @@
-// The program: solves weak parity games from files. It only reads, asks the library and prints.
+// The program: games, drafts and words by hand. It only reads, asks the library and prints.
+mod accepting;
 mod command;
 mod demo;
+mod drafts;
 mod failure;
+mod formula;
 mod solving;
+mod why;
 
 use command::Command;
 use command::parse;
@@ -29,6 +33,9 @@ fn run(rt: &LibcRuntime) -> Result<(), Failure> {
         Command::Help => Ok(rt.print(usage())?),
         Command::Demo => demo::run(rt),
         Command::Solve { mirrored, file } => solving::solve_file(rt, mirrored, file.as_str()),
+        Command::Show(source) => drafts::show(rt, &source),
+        Command::Turn { source, out } => drafts::turn(rt, &source, out.as_str()),
+        Command::Accept(question) => accepting::accept_file(rt, &question),
     }
 }
 

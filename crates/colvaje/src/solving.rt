@@ -11,6 +11,8 @@ use arena::make;
 use game::Outcome;
 use game::solve;
 use parity::Player;
+use std::alloc::AllocError;
+use std::alloc::Global;
 use std::fs;
 use std::io;
 
@@ -40,13 +42,7 @@ pub(crate) fn solve_bytes(rt: &LibcRuntime, mirrored: bool, bytes: &[u8]) -> Res
 }
 
 fn print_solution<X: Arena>(rt: &LibcRuntime, arena: &X) -> Result<(), Failure> {
-    let unsolved = Outcome {
-        winner: Player::Zero,
-        grade: 0,
-        distance: 0,
-        choice: 0,
-    };
-    let mut records = vec![in rt.alloc(); unsolved; arena.count()]?;
+    let mut records = unsolved(rt.alloc(), arena.count())?;
     let _ = solve(arena, &mut records);
     print_table(rt, &records)?;
     Ok(())
@@ -65,4 +61,15 @@ fn print_table(rt: &LibcRuntime, records: &[Outcome]) -> io::Result<()> {
         )?;
     }
     Ok(())
+}
+
+// So many records, for solve to write.
+pub(crate) fn unsolved(heap: Global, count: usize) -> Result<Vec<Outcome>, AllocError> {
+    let record = Outcome {
+        winner: Player::Zero,
+        grade: 0,
+        distance: 0,
+        choice: 0,
+    };
+    vec![in heap; record; count]
 }

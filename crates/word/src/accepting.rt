@@ -16,7 +16,13 @@ use refusal::Refusal;
 
 // Accepted exactly when the draft has an accepting run on the word from the state: when player 0 wins the state at step 0 of the
 // word arena. The records are left as solve writes them.
-pub fn accept<'a>(draft: &'a Draft, state: usize, prefix: &'a [u8], period: &'a [u8], out: &mut [Outcome]) -> Result<Verdict, Refusal>
+pub fn accept<'a>(
+    draft: &'a Draft,
+    state: usize,
+    prefix: &'a [u8],
+    period: &'a [u8],
+    out: &mut [Outcome],
+) -> Result<Verdict, Refusal>
     ensures answer { λ r. ⌜ (r, now (out .exit)) ≡ accept-answer (automaton (now (draft .entry))) state (now (prefix .entry)) (now (period .entry)) (now (out .entry)) ⌝ }
     ensures judged { λ r. ⌜ Judged r (automaton (now (draft .entry))) (letter (now (prefix .entry)) (now (period .entry))) state ⌝ }
     ensures turned { λ _. ⌜ Turn-opposes ⌝ }
@@ -25,7 +31,13 @@ pub fn accept<'a>(draft: &'a Draft, state: usize, prefix: &'a [u8], period: &'a 
 }
 
 // The answer by the word arena.
-fn decide<'a>(draft: &'a Draft, state: usize, prefix: &'a [u8], period: &'a [u8], out: &mut [Outcome]) -> Result<Verdict, Refusal>
+fn decide<'a>(
+    draft: &'a Draft,
+    state: usize,
+    prefix: &'a [u8],
+    period: &'a [u8],
+    out: &mut [Outcome],
+) -> Result<Verdict, Refusal>
     ensures { λ r. ⌜ (r, now (out .exit)) ≡ accept-answer (automaton (now (draft .entry))) state (now (prefix .entry)) (now (period .entry)) (now (out .entry)) ⌝ }
 {
     ask(draft, state, prefix, period)?;

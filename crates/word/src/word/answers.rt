@@ -66,8 +66,10 @@ impl WordArena<'_> {
         }
         match node {
             Node::Leaf(q) => join(self.next(k), self.states, q),
-            Node::Either(left, right) => self.stated + join(k, self.nodes, if i == 0 { left } else { right }),
-            Node::Both(left, right) => self.stated + join(k, self.nodes, if i == 0 { left } else { right }),
+            Node::Either(left, right) => self.stated
+                + join(k, self.nodes, if i == 0 { left } else { right }),
+            Node::Both(left, right) => self.stated
+                + join(k, self.nodes, if i == 0 { left } else { right }),
         }
     }
 }

@@ -1,13 +1,20 @@
 -- The worked examples with their answers, as one fact about the definitions.
 use mathlib.Core.Path.{_≡_}
-use Prim.Native.Nat.{ℕ}
+use mathlib.Core.List.{[], _∷_}
+use lib.ListN.{length}
 use Rattle.std.specs.declared.result.Result.the-variants.{Ok}
 use Rattle.parity.specs.Grading.{grade, distance, winner}
 use Rattle.parity.specs.Move.{move}
 use Rattle.parity.specs.Mirror.{mirror}
 use Rattle.parity.specs.declared.player.Player.the-variants.{Zero, One}
 use Rattle.arena.specs.Stored.{asked}
+use Rattle.draft.specs.Calls.{turned, turn-over}
+use Rattle.word.specs.declared.verdict.Verdict.the-variants.{Rejected, Accepted}
+use Rattle.inclusion.specs.PairGame.{pair-winner}
+use Rattle.inclusion.specs.Safe.{Contained}
 use Rattle.worked_examples.specs.Arenas.{two-bytes, three-bytes, drawn-bytes, two, three, drawn}
+use Rattle.worked_examples.specs.Drafts.{branching-bytes, branching, post, take, mailbox-bytes, mailbox, posted-bytes, posted}
+use Rattle.worked_examples.specs.Answered.{Makes, Answers, Askable}
 
 pub record Worked : Type 0 where
   -- the bytes are stored arenas
@@ -25,3 +32,19 @@ pub record Worked : Type 0 where
   pub drawn-grades : (grade drawn 0 ≡ 0) × (grade drawn 1 ≡ 0) × (grade drawn 2 ≡ 0)
   pub drawn-distances : (distance drawn 0 ≡ 2) × (distance drawn 1 ≡ 0) × (distance drawn 2 ≡ 1)
   pub drawn-moves : (move drawn 0 ≡ 0) × (move drawn 1 ≡ 0) × (move drawn 2 ≡ 0)
+  -- the bytes are draft files, and make these automata
+  pub branching-made : Makes 1 branching-bytes branching
+  pub mailbox-made : Makes 2 mailbox-bytes mailbox
+  pub posted-made : Makes 2 posted-bytes posted
+  pub mailbox-length : length mailbox-bytes ≡ 96
+  -- "or" and "and", and the same turned
+  pub branching-answers : Answers branching 0 [] (0 ∷ []) Accepted × Answers branching 1 [] (0 ∷ []) Rejected
+  pub branching-turns : turn-over branching ≡ (Ok tt, turned branching)
+  pub turned-answers : Answers (turned branching) 0 [] (0 ∷ []) Rejected × Answers (turned branching) 1 [] (0 ∷ []) Accepted
+  -- post and take in turn; takes for ever after one post
+  pub mailbox-answers : Answers mailbox 0 [] (post ∷ take ∷ []) Accepted × Answers mailbox 0 (post ∷ []) (take ∷ []) Rejected
+  -- a word that the mailbox accepts has a post; the other way player 1 wins the pair, and containment is not shown
+  pub askable : Askable mailbox × Askable posted × (mailbox .letters ≡ posted .letters)
+  pub mailbox-in-posted : pair-winner mailbox posted 0 0 ≡ Zero
+  pub mailbox-contained : Contained mailbox posted 0 0
+  pub posted-in-mailbox : pair-winner posted mailbox 0 0 ≡ One

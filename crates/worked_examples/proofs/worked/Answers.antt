@@ -1,5 +1,10 @@
+-- The facts that make up `Worked`.
+use mathlib.Core.Path.{refl}
 use lib.Dec.{lit<}
 use Rattle.worked_examples.proofs.Arenas as arenas
+use Rattle.worked_examples.proofs.Drafts as drafts
+use Rattle.worked_examples.proofs.Words as words
+use Rattle.worked_examples.proofs.Pairs as pairs
 use Rattle.worked_examples.proofs.worked.Needs as need
 
 pub returns : need.returns
@@ -15,4 +20,16 @@ returns c = record {
   drawn-grades = (arenas.drawn-tabled 0 (lit< tt) .grade-at, arenas.drawn-tabled 1 (lit< tt) .grade-at, arenas.drawn-tabled 2 (lit< tt) .grade-at);
   drawn-distances = (arenas.drawn-tabled 0 (lit< tt) .distance-at, arenas.drawn-tabled 1 (lit< tt) .distance-at, arenas.drawn-tabled 2 (lit< tt) .distance-at);
   drawn-moves = arenas.drawn-moves;
+  branching-made = drafts.branching-made;
+  mailbox-made = drafts.mailbox-made;
+  posted-made = drafts.posted-made;
+  mailbox-length = refl;
+  branching-answers = words.branching-answers;
+  branching-turns = drafts.branching-turns;
+  turned-answers = words.turned-answers;
+  mailbox-answers = words.mailbox-answers;
+  askable = (drafts.mailbox-askable, drafts.posted-askable, refl);
+  mailbox-in-posted = pairs.mailbox-in-posted;
+  mailbox-contained = pairs.mailbox-contained;
+  posted-in-mailbox = pairs.posted-in-mailbox;
 }

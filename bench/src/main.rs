@@ -1,11 +1,21 @@
 // Times the proved solver against the same rounds in plain Rust, on the same arenas, in one run.
+mod drafts;
 mod solve;
 
-use solve::{Outcome, Stored, solve};
+use drafts::{Draft, Node, Pair, Word};
+use solve::{Arena, Outcome, Stored, solve};
 use std::time::Instant;
 
 unsafe extern "C" {
     fn colvaje_testing_solve(bytes: *const u8, len: usize, repeats: u32, out: *mut u8, out_len: usize) -> u32;
+    fn colvaje_testing_accept(
+        letters: u32, bytes: *const u8, len: usize, state: u32, prefix: *const u8, prefix_len: usize, period: *const u8,
+        period_len: usize, repeats: u32,
+    ) -> u32;
+    fn colvaje_testing_contain(
+        letters: u32, first: *const u8, first_len: usize, second: *const u8, second_len: usize, first_state: u32,
+        second_state: u32, repeats: u32,
+    ) -> u32;
 }
 
 fn vertex(owner: u8, priority: u16, left: usize, right: usize) -> [u8; 8] {
@@ -69,6 +79,65 @@ fn compare(name: &str, bytes: &[u8], repeats: u32) {
     println!("{name:<28} {rounds:>6} {:>9.3} {:>9.3} {:>7.2}", a * each, b * each, a / b);
 }
 
+// A draft at the limits: 32 states, 128 nodes, all letters ruled. Priorities fall along the rules, so it is stratified.
+fn full_draft(letters: u8, shift: u16) -> Draft {
+    let mut nodes: Vec<Node> = (0..32).map(Node::Leaf).collect();
+    for i in 32..128u8 {
+        let (l, r) = (i - 32, i - 31);
+        nodes.push(if i % 2 == 0 { Node::Either(l, r) } else { Node::Both(l, r) });
+    }
+    // node 32 + i joins the leaves i and i + 1; state q leads to states at q or below it
+    let states = (0..32u16)
+        .map(|q| {
+            let mut rules = [None; 16];
+            for (letter, rule) in rules.iter_mut().enumerate().take(letters as usize) {
+                *rule = Some(if letter % 2 == 0 || q == 0 { q as u8 } else { 31 + q as u8 });
+            }
+            (q + shift, rules)
+        })
+        .collect();
+    Draft { letters, states, nodes }
+}
+
+// Times a question that is asked through the library against the same arena in plain Rust.
+fn question<X: Arena>(name: &str, arena: &X, start: usize, repeats: u32, ask: impl Fn(u32) -> u32, records: usize) {
+    let n = arena.count();
+    let mut ours = vec![Outcome { winner: 0, grade: 0, distance: 0, choice: 0 }; records];
+    let (mut a, mut b, mut rounds, mut answer) = (f64::MAX, f64::MAX, 0, 0);
+    for _ in 0..7 {
+        let start = Instant::now();
+        answer = ask(repeats);
+        a = a.min(start.elapsed().as_secs_f64());
+        let start = Instant::now();
+        for _ in 0..repeats {
+            rounds = solve(std::hint::black_box(arena), std::hint::black_box(&mut ours));
+        }
+        b = b.min(start.elapsed().as_secs_f64());
+    }
+    assert_eq!(answer, u32::from(ours[start].winner == 0), "{name}: the answers differ");
+    let each = 1e9 / (n as f64 * rounds as f64 * f64::from(repeats));
+    println!("{name:<28} {rounds:>6} {:>9.3} {:>9.3} {:>7.2}", a * each, b * each, a / b);
+}
+
+fn accept_at_the_limits() {
+    let draft = full_draft(2, 0);
+    let file = draft.records();
+    let (prefix, period) = (vec![0u8; 31], vec![1u8; 33]);
+    let word = Word { draft: &draft, prefix: &prefix, period: &period };
+    let ask = |repeats| unsafe {
+        colvaje_testing_accept(2, file.as_ptr(), file.len(), 31, prefix.as_ptr(), prefix.len(), period.as_ptr(), period.len(), repeats)
+    };
+    question("accept, 10240 vertices", &word, 31, 5, ask, 10240);
+}
+
+fn contain_at_the_limits() {
+    let (first, second) = (full_draft(16, 0), full_draft(16, 1));
+    let (a, b) = (first.records(), second.records());
+    let pair = Pair { a: &first, b: &second };
+    let ask = |repeats| unsafe { colvaje_testing_contain(16, a.as_ptr(), a.len(), b.as_ptr(), b.len(), 31, 31, repeats) };
+    question("contain, 17408 vertices", &pair, 31 * 32 + 31, 3, ask, 17408);
+}
+
 fn main() {
     println!("{:<28} {:>6} {:>9} {:>9} {:>7}", "arena", "rounds", "proved", "plain", "ratio");
     println!("{:<28} {:>6} {:>9} {:>9} {:>7}", "", "", "ns", "ns", "");
@@ -77,4 +146,6 @@ fn main() {
     compare("random 4096, 4 priorities", &random(4096, 4, 1), 300);
     compare("random 4096, 100 priorities", &random(4096, 100, 2), 30);
     compare("random 256, 100 priorities", &random(256, 100, 3), 1000);
+    accept_at_the_limits();
+    contain_at_the_limits();
 }

@@ -12,6 +12,7 @@ pub(crate) enum Command {
     Show(Source),
     Turn { source: Source, out: String },
     Accept(Question),
+    Contain(Comparison),
 }
 
 // A draft file, and the number of letters with which it is loaded.
@@ -31,6 +32,17 @@ pub(crate) struct Question {
     pub(crate) why: bool,
 }
 
+// Whether a draft from a state is contained in another from a state of its own, and whether the reason is wanted.
+#[derive(Drop)]
+pub(crate) struct Comparison {
+    pub(crate) letters: u32,
+    pub(crate) first: String,
+    pub(crate) first_state: usize,
+    pub(crate) second: String,
+    pub(crate) second_state: usize,
+    pub(crate) why: bool,
+}
+
 // The command in the words after the program's name.
 pub(crate) fn parse(heap: Global, words: &[String]) -> Result<Command, Failure> {
     let Some(name) = words.first() else {
@@ -44,6 +56,7 @@ pub(crate) fn parse(heap: Global, words: &[String]) -> Result<Command, Failure> 
         "show" => parse_show(heap, rest),
         "turn" => parse_turn(heap, rest),
         "accept" => parse_accept(heap, rest),
+        "contain" => parse_contain(heap, rest),
         _ => Err(Failure::Usage),
     }
 }
@@ -102,6 +115,34 @@ fn parse_question(heap: Global, words: &[String], why: bool) -> Result<Command, 
     }
 }
 
+fn parse_contain(heap: Global, words: &[String]) -> Result<Command, Failure> {
+    match words {
+        [why, rest @ ..] if why.as_str() == "--why" => parse_comparison(heap, rest, true),
+        _ => parse_comparison(heap, words, false),
+    }
+}
+
+fn parse_comparison(heap: Global, words: &[String], why: bool) -> Result<Command, Failure> {
+    match words {
+        [letters, first, first_state, second, second_state] => {
+            let letters = number(letters.as_str())?;
+            let first = file_name(heap, first.as_str())?;
+            let first_state = number(first_state.as_str())? as usize;
+            let second = file_name(heap, second.as_str())?;
+            let second_state = number(second_state.as_str())? as usize;
+            Ok(Command::Contain(Comparison {
+                letters,
+                first,
+                first_state,
+                second,
+                second_state,
+                why,
+            }))
+        }
+        _ => Err(Failure::Usage),
+    }
+}
+
 fn parse_source(heap: Global, letters: &str, file: &str) -> Result<Source, Failure> {
     let letters = number(letters)?;
     let file = file_name(heap, file)?;
@@ -141,16 +182,18 @@ fn letter(digit: u8) -> Result<u8, Failure> {
 }
 
 pub(crate) fn usage() -> &'static str {
-    "usage: colvaje [demo]                            the built-in examples
+    "usage: colvaje [demo]                            the mailbox task and other examples
        colvaje solve [--mirror] FILE             who wins each vertex of the arena in FILE, or of its mirror
        colvaje show LETTERS FILE                 the draft in FILE, for a person
        colvaje turn LETTERS FILE OUT             writes the dual of the draft in FILE to OUT
        colvaje accept [--why] LETTERS FILE STATE PREFIX PERIOD
                                                  whether the draft accepts PREFIX followed by PERIOD for ever
+       colvaje contain [--why] LETTERS FIRST STATE SECOND STATE
+                                                 whether every word that FIRST accepts from its state is one of SECOND's
        colvaje --help                            this text
 
 LETTERS is a number from 1 to 16. A word is typed one hexadecimal digit a letter; \"\" is the empty prefix.
 solve prints a line a vertex, five whole numbers: vertex, winner, grade, distance, move.
-accept ends with status 0 exactly when the last line is 'accepted'.
+accept and contain end with status 0 exactly when the last line is 'accepted' or 'contained'.
 "
 }

@@ -11,9 +11,16 @@ use std::fs;
 
 // The draft in a file.
 pub(crate) fn read(rt: &LibcRuntime, source: &Source) -> Result<Draft, Failure> {
-    match fs::read(rt, source.file.as_str()) {
-        Ok(bytes) => loaded(rt, source.letters, &bytes),
-        Err(error) => Err(Failure::Unreadable(source.file.clone()?, error)),
+    read_file(rt, source.letters, source.file.as_str())
+}
+
+pub(crate) fn read_file(rt: &LibcRuntime, letters: u32, file: &str) -> Result<Draft, Failure> {
+    match fs::read(rt, file) {
+        Ok(bytes) => loaded(rt, letters, &bytes),
+        Err(error) => Err(Failure::Unreadable(
+            String::from_str(rt.alloc(), file)?,
+            error,
+        )),
     }
 }
 

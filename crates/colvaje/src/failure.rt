@@ -1,6 +1,7 @@
 // Why the program stops short, and how it says so.
 use crate::command::usage;
 use arena::StoredFault;
+use contain::ContainFault;
 use draft::Layer;
 use draft::LoadFault;
 use refusal::Refusal;
@@ -20,6 +21,8 @@ pub(crate) enum Failure {
     Arena(StoredFault),
     // the bytes are no draft
     Draft(LoadFault),
+    // a question about two drafts was answered no
+    Contain(ContainFault),
     // a question was answered no
     Refused(Refusal),
     // the answer is no, which was printed
@@ -47,6 +50,12 @@ pub(crate) impl<T: Drop> From<Refused<T>> for Failure as FailureFromRefused {
     }
 }
 
+pub(crate) impl From<ContainFault> for Failure as FailureFromContainFault {
+    fn from(fault: ContainFault) -> Self {
+        Failure::Contain(fault)
+    }
+}
+
 pub(crate) impl From<Refusal> for Failure as FailureFromRefusal {
     fn from(refusal: Refusal) -> Self {
         Failure::Refused(refusal)
@@ -62,6 +71,7 @@ impl Failure {
             Failure::Unwritable(file, error) => eprintln!(rt, "cannot write {file}: {error}"),
             Failure::Arena(fault) => print_arena_fault(rt, fault),
             Failure::Draft(fault) => print_draft_fault(rt, fault),
+            Failure::Contain(fault) => print_contain_fault(rt, fault),
             Failure::Refused(refusal) => eprintln!(rt, "refused {}: {refusal}", refusal.number()),
             Failure::No => Ok(()),
             Failure::Output(error) => eprintln!(rt, "cannot write the answer: {error}"),
@@ -93,5 +103,18 @@ fn print_draft_fault(rt: &LibcRuntime, fault: LoadFault) -> io::Result<()> {
             "refused {number}: record {place}, its call: {}",
             fault.refusal
         ),
+    }
+}
+
+fn print_contain_fault(rt: &LibcRuntime, fault: ContainFault) -> io::Result<()> {
+    let number = fault.refusal.number();
+    match fault.draft {
+        Some(which) => eprintln!(
+            rt,
+            "refused {number}: draft {}: {}",
+            which.number(),
+            fault.refusal
+        ),
+        None => eprintln!(rt, "refused {number}: {}", fault.refusal),
     }
 }

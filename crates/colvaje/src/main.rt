@@ -1,6 +1,7 @@
-// The program: games, drafts and words by hand. It only reads, asks the library and prints.
+// The program: games, drafts, words and containment by hand. It only reads, asks the library and prints.
 mod accepting;
 mod command;
+mod containing;
 mod demo;
 mod drafts;
 mod failure;
@@ -36,6 +37,7 @@ fn run(rt: &LibcRuntime) -> Result<(), Failure> {
         Command::Show(source) => drafts::show(rt, &source),
         Command::Turn { source, out } => drafts::turn(rt, &source, out.as_str()),
         Command::Accept(question) => accepting::accept_file(rt, &question),
+        Command::Contain(comparison) => containing::contain_files(rt, &comparison),
     }
 }
 

@@ -27,7 +27,7 @@ module _ (G : Game) where
     less : (i : ℕ) → i < inside G .degree v → i < G .degree v
     less i = subst (λ d. i < d) same-degree
 
-  inside-sound : Sound G → Sound (inside G)
+  pub inside-sound : Sound G → Sound (inside G)
   inside-sound s = record {
     moves = λ v v<. subst (λ d. 0 < d) (sym (same-degree v v<)) (s .moves v v<);
     stays = λ v i v< i<. subst (λ w. w < G .count) (sym (same-successor v v< i (less v v< i i<))) (s .stays v i v< (less v v< i i<));

@@ -1,0 +1,2 @@
+-- The definition of the answer.
+pub mod HostAnswer

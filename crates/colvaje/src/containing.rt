@@ -36,7 +36,10 @@ pub(crate) fn decide<'a>(
     // as many records as two drafts can want: 32 times 32 pairs of states, 128 times 128 of nodes
     let mut records = unsolved(rt.alloc(), 17408)?;
     let verdict = judge(first, first_state, second, second_state, &mut records)?;
-    println!(rt, "asked: is every word that the first draft accepts from s{first_state} accepted by the second from s{second_state}?")?;
+    println!(
+        rt,
+        "asked: is every word that the first draft accepts from s{first_state} accepted by the second from s{second_state}?"
+    )?;
     if why {
         print_reason(rt, first, first_state, second, second_state, &records)?;
     }

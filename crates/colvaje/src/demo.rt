@@ -10,15 +10,170 @@ use draft::Draft;
 
 // The mailbox drawing, a record a line: states, leaves, rules for post (0), rules for take (1).
 const MAILBOX: [u8; 96] = [
-    1, 0, 2, 0, 0, 0, 0, 0, 1, 0, 2, 0, 0, 0, 0, 0, 1, 0, 1, 0, 0, 0, 0, 0, 2, 0, 0, 0, 0, 0, 0, 0,
-    2, 0, 1, 0, 0, 0, 0, 0, 2, 0, 2, 0, 0, 0, 0, 0, 5, 0, 0, 0, 1, 0, 0, 0, 5, 0, 1, 0, 2, 0, 0, 0,
-    5, 0, 2, 0, 2, 0, 0, 0, 5, 1, 0, 0, 2, 0, 0, 0, 5, 1, 1, 0, 0, 0, 0, 0, 5, 1, 2, 0, 2, 0, 0, 0,
+    1,
+    0,
+    2,
+    0,
+    0,
+    0,
+    0,
+    0,
+    1,
+    0,
+    2,
+    0,
+    0,
+    0,
+    0,
+    0,
+    1,
+    0,
+    1,
+    0,
+    0,
+    0,
+    0,
+    0,
+    2,
+    0,
+    0,
+    0,
+    0,
+    0,
+    0,
+    0,
+    2,
+    0,
+    1,
+    0,
+    0,
+    0,
+    0,
+    0,
+    2,
+    0,
+    2,
+    0,
+    0,
+    0,
+    0,
+    0,
+    5,
+    0,
+    0,
+    0,
+    1,
+    0,
+    0,
+    0,
+    5,
+    0,
+    1,
+    0,
+    2,
+    0,
+    0,
+    0,
+    5,
+    0,
+    2,
+    0,
+    2,
+    0,
+    0,
+    0,
+    5,
+    1,
+    0,
+    0,
+    2,
+    0,
+    0,
+    0,
+    5,
+    1,
+    1,
+    0,
+    0,
+    0,
+    0,
+    0,
+    5,
+    1,
+    2,
+    0,
+    2,
+    0,
+    0,
+    0,
 ];
 
 // The mailbox rule: something is posted at some time.
 const RULE: [u8; 64] = [
-    1, 0, 1, 0, 0, 0, 0, 0, 1, 0, 0, 0, 0, 0, 0, 0, 2, 0, 0, 0, 0, 0, 0, 0, 2, 0, 1, 0, 0, 0, 0, 0,
-    5, 0, 0, 0, 1, 0, 0, 0, 5, 0, 1, 0, 1, 0, 0, 0, 5, 1, 0, 0, 0, 0, 0, 0, 5, 1, 1, 0, 1, 0, 0, 0,
+    1,
+    0,
+    1,
+    0,
+    0,
+    0,
+    0,
+    0,
+    1,
+    0,
+    0,
+    0,
+    0,
+    0,
+    0,
+    0,
+    2,
+    0,
+    0,
+    0,
+    0,
+    0,
+    0,
+    0,
+    2,
+    0,
+    1,
+    0,
+    0,
+    0,
+    0,
+    0,
+    5,
+    0,
+    0,
+    0,
+    1,
+    0,
+    0,
+    0,
+    5,
+    0,
+    1,
+    0,
+    1,
+    0,
+    0,
+    0,
+    5,
+    1,
+    0,
+    0,
+    0,
+    0,
+    0,
+    0,
+    5,
+    1,
+    1,
+    0,
+    1,
+    0,
+    0,
+    0,
 ];
 
 // Two vertices: 0 leads to 1, and 1 to itself.
@@ -26,20 +181,49 @@ const TWO: [u8; 16] = [0, 0, 2, 0, 1, 0, 1, 0, 1, 0, 3, 0, 1, 0, 1, 0];
 
 // Three vertices: at 1 the loser has to keep away from priority 1.
 const THREE: [u8; 24] = [
-    0, 0, 2, 0, 1, 0, 1, 0, 0, 0, 3, 0, 2, 0, 1, 0, 1, 0, 1, 0, 2, 0, 2, 0,
+    0,
+    0,
+    2,
+    0,
+    1,
+    0,
+    1,
+    0,
+    0,
+    0,
+    3,
+    0,
+    2,
+    0,
+    1,
+    0,
+    1,
+    0,
+    1,
+    0,
+    2,
+    0,
+    2,
+    0,
 ];
 
 pub(crate) fn run(rt: &LibcRuntime) -> Result<(), Failure> {
     let drawing = loaded(rt, 2, &MAILBOX)?;
     let rule = loaded(rt, 2, &RULE)?;
-    println!(rt, "A pair of tasks posts (letter 0) and takes (letter 1) in turn:")?;
+    println!(
+        rt,
+        "A pair of tasks posts (letter 0) and takes (letter 1) in turn:"
+    )?;
     print(rt, &drawing)?;
     println!(rt, "")?;
     println!(rt, "The mailbox rule:")?;
     print(rt, &rule)?;
     println!(rt, "")?;
     run_words(rt, &drawing)?;
-    println!(rt, "May the pair use the mailbox? The drawing is the first draft, the rule the second.")?;
+    println!(
+        rt,
+        "May the pair use the mailbox? The drawing is the first draft, the rule the second."
+    )?;
     let _ = containing::decide(rt, &drawing, 0, &rule, 0, true);
     println!(rt, "")?;
     println!(rt, "The other way round:")?;
@@ -58,7 +242,10 @@ fn run_words(rt: &LibcRuntime, drawing: &Draft) -> Result<(), Failure> {
 
 // Small games, solved.
 fn run_games(rt: &LibcRuntime) -> Result<(), Failure> {
-    println!(rt, "A game of two vertices, won by the smallest priority of the whole play; then its mirror:")?;
+    println!(
+        rt,
+        "A game of two vertices, won by the smallest priority of the whole play; then its mirror:"
+    )?;
     solve_bytes(rt, false, &TWO)?;
     solve_bytes(rt, true, &TWO)?;
     println!(rt, "A game in which the loser's move at vertex 1 matters:")?;

@@ -17,10 +17,7 @@ pub(crate) fn read(rt: &LibcRuntime, source: &Source) -> Result<Draft, Failure> 
 pub(crate) fn read_file(rt: &LibcRuntime, letters: u32, file: &str) -> Result<Draft, Failure> {
     match fs::read(rt, file) {
         Ok(bytes) => loaded(rt, letters, &bytes),
-        Err(error) => Err(Failure::Unreadable(
-            String::from_str(rt.alloc(), file)?,
-            error,
-        )),
+        Err(error) => Err(Failure::Unreadable(String::from_str(rt.alloc(), file)?, error)),
     }
 }
 

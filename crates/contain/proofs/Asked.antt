@@ -6,9 +6,8 @@ use native.Mathlib.Omega.{arith}
 use lib.Dec.{eqb, ltb}
 use Rattle.std.proofs.shelf.Tests.{eqb-true, ltb-true}
 use Rattle.std.specs.declared.result.Result.the-variants.{Ok}
-use Rattle.draft.specs.Automaton.{Automaton, state-count, node-count, is-complete}
+use Rattle.draft.specs.Automaton.{Automaton, state-count, is-complete}
 use Rattle.draft.specs.WellFormed.{Well-formed}
-use Rattle.runs.proofs.Formed.{formed}
 use Rattle.inclusion.specs.Comparable.{Comparable}
 use Rattle.inclusion.specs.Stratified.{is-stratified}
 use Rattle.inclusion.proofs.Tested.{stratified-tested}
@@ -58,7 +57,3 @@ comparable a p b q wa wb y = record {
   first-stratified = stratified-tested a wa .0 (y .stratified);
   second-stratified = stratified-tested b wb .0 (y .stratified′);
 }
-
--- an automaton that has a state and every rule has a node
-pub some-node : (a : Automaton) → Well-formed a → is-complete a ≡ true → (q : ℕ) → q < state-count a → 0 < node-count a
-some-node a w c q q< = let h = formed a w c .ruled q 0 q< (w .some-letters) in omega arith

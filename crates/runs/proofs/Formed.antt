@@ -44,3 +44,7 @@ formed a w c = record {
   ruled = λ q l q< l<. w .named q l (rule-node a q l) (rule-is a c q l q< l<);
   low = λ q q<. (let h = w .low q q< in omega arith);
 }
+
+-- an automaton that has a state and every rule has a node
+pub some-node : (a : Automaton) → Well-formed a → is-complete a ≡ true → (q : ℕ) → q < state-count a → 0 < node-count a
+some-node a w c q q< = let h = formed a w c .ruled q 0 q< (w .some-letters) in omega arith

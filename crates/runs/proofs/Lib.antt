@@ -17,3 +17,4 @@ pub mod Turned
 pub mod WordBounded
 pub mod Rest
 pub mod AnySets
+pub mod Rows

@@ -22,14 +22,28 @@ fn loaded(heap: Global, letters: u32, bytes: &[u8]) -> Option<Draft> {
 
 // Asks so many times whether the draft accepts the word: 0 rejected, 1 accepted, a refusal's number plus 100.
 #[unsafe(no_mangle)]
-pub extern "C" fn colvaje_testing_accept(letters: u32, bytes: &[u8], state: u32, prefix: &[u8], period: &[u8], repeats: u32, heap: Global) -> u32 {
+pub extern "C" fn colvaje_testing_accept(
+    letters: u32,
+    bytes: &[u8],
+    state: u32,
+    prefix: &[u8],
+    period: &[u8],
+    repeats: u32,
+    heap: Global,
+) -> u32 {
     match loaded(heap, letters, bytes) {
         Some(draft) => accept_often(&draft, state as usize, prefix, period, repeats),
         None => NO_DRAFT,
     }
 }
 
-fn accept_often<'a>(draft: &'a Draft, state: usize, prefix: &'a [u8], period: &'a [u8], repeats: u32) -> u32 {
+fn accept_often<'a>(
+    draft: &'a Draft,
+    state: usize,
+    prefix: &'a [u8],
+    period: &'a [u8],
+    repeats: u32,
+) -> u32 {
     let mut records = [UNSOLVED; 10240];
     let mut answer = NO_DRAFT;
     for _ in 0..repeats {
@@ -43,7 +57,15 @@ fn accept_often<'a>(draft: &'a Draft, state: usize, prefix: &'a [u8], period: &'
 
 // Asks so many times whether the first draft is contained in the second: 0 not shown, 1 contained, a refusal's number plus 100.
 #[unsafe(no_mangle)]
-pub extern "C" fn colvaje_testing_contain(letters: u32, first: &[u8], second: &[u8], first_state: u32, second_state: u32, repeats: u32, heap: Global) -> u32 {
+pub extern "C" fn colvaje_testing_contain(
+    letters: u32,
+    first: &[u8],
+    second: &[u8],
+    first_state: u32,
+    second_state: u32,
+    repeats: u32,
+    heap: Global,
+) -> u32 {
     let Some(a) = loaded(heap, letters, first) else {
         return NO_DRAFT;
     };
@@ -53,7 +75,13 @@ pub extern "C" fn colvaje_testing_contain(letters: u32, first: &[u8], second: &[
     contain_often(&a, first_state as usize, &b, second_state as usize, repeats)
 }
 
-fn contain_often<'a>(first: &'a Draft, first_state: usize, second: &'a Draft, second_state: usize, repeats: u32) -> u32 {
+fn contain_often<'a>(
+    first: &'a Draft,
+    first_state: usize,
+    second: &'a Draft,
+    second_state: usize,
+    repeats: u32,
+) -> u32 {
     let mut records = [UNSOLVED; 17408];
     let mut answer = NO_DRAFT;
     for _ in 0..repeats {

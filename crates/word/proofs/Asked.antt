@@ -8,10 +8,8 @@ use lib.Dec.{leb, ltb}
 use lib.ListN.{length}
 use Rattle.std.proofs.shelf.Tests.{and-parts, leb-true, ltb-true}
 use Rattle.std.specs.declared.result.Result.the-variants.{Ok}
-use Rattle.draft.specs.Automaton.{Automaton, state-count, node-count, is-complete}
-use Rattle.draft.specs.WellFormed.{Well-formed}
+use Rattle.draft.specs.Automaton.{Automaton, state-count, is-complete}
 use Rattle.runs.specs.WordGame.{steps}
-use Rattle.runs.proofs.Formed.{formed}
 use Rattle.word.specs.Asking.{letters-known, in-order, asked}
 
 -- four questions that were answered yes
@@ -40,7 +38,3 @@ answered a q prefix period e =
       short = leb-true _ _ (word .1);
       known = yes′ .3;
     }
-
--- an automaton that has a state and every rule has a node
-pub some-node : (a : Automaton) → Well-formed a → is-complete a ≡ true → (q : ℕ) → q < state-count a → 0 < node-count a
-some-node a w c q q< = let h = formed a w c .ruled q 0 q< (w .some-letters) in omega arith

@@ -1,4 +1,4 @@
 pub mod Asked
-pub mod Rows
+pub mod StepOf
 pub mod Judging
 pub mod Opposed

@@ -24,7 +24,12 @@ const OLD: Outcome = Outcome {
 };
 
 // The answer with room for 512 vertices.
-fn asked<'a>(draft: &'a Draft, state: usize, prefix: &'a [u8], period: &'a [u8]) -> Result<Verdict, Refusal> {
+fn asked<'a>(
+    draft: &'a Draft,
+    state: usize,
+    prefix: &'a [u8],
+    period: &'a [u8],
+) -> Result<Verdict, Refusal> {
     let mut records = [OLD; 512];
     accept(draft, state, prefix, period, &mut records)
 }
@@ -83,6 +88,9 @@ fn room(rt: LibcRuntime) -> Result<(), Fail> {
     check_eq(accept(&draft, 0, &[], &[0], &mut five), Err(Refusal::Room))?;
     check_eq(five[0], OLD)?;
     let mut seven = [OLD; 7];
-    check_eq(accept(&draft, 0, &[], &[0], &mut seven), Ok(Verdict::Rejected))?;
+    check_eq(
+        accept(&draft, 0, &[], &[0], &mut seven),
+        Ok(Verdict::Rejected),
+    )?;
     check_eq(seven[6], OLD)
 }

@@ -1,15 +1,13 @@
--- The draft files: what they make, that it is well formed, and that it can be asked about.
+-- The draft files: what they make, that it is well formed, and that `branching` turns over.
 use mathlib.Core.Path.{_≡_, refl}
 use Rattle.std.specs.declared.result.Result.the-variants.{Ok}
 use Rattle.parity.specs.Below.{all-below}
-use Rattle.draft.specs.Automaton.{is-ruled, is-complete}
 use Rattle.draft.specs.Calls.{turned, can-turn, turn-over}
 use Rattle.draft.specs.History.{new, then, load}
 use Rattle.draft.specs.WellFormed.{Well-formed}
 use Rattle.draft.proofs.Histories.{histories-keep}
-use Rattle.inclusion.specs.Stratified.{low-to, state-low, is-stratified}
 use Rattle.worked_examples.specs.Drafts.{branching-bytes, branching, mailbox-bytes, mailbox, posted-bytes, posted}
-use Rattle.worked_examples.specs.Answered.{Makes, Askable}
+use Rattle.worked_examples.specs.Answered.{Makes}
 
 pub branching-made : Makes 1 branching-bytes branching
 branching-made before = refl
@@ -33,11 +31,3 @@ posted-formed = histories-keep posted (then (load 2 posted-bytes) new)
 pub branching-turns : turn-over branching ≡ (Ok tt, turned branching)
 unfolding can-turn all-below
 branching-turns = refl
-
-pub mailbox-askable : Askable mailbox
-unfolding is-complete is-ruled is-stratified state-low low-to all-below
-mailbox-askable = record { complete = refl; stratified = refl }
-
-pub posted-askable : Askable posted
-unfolding is-complete is-ruled is-stratified state-low low-to all-below
-posted-askable = record { complete = refl; stratified = refl }

@@ -4,4 +4,5 @@ pub mod Arenas
 pub mod Drafts
 pub mod Verdicts
 pub mod Words
+pub mod Comparing
 pub mod Pairs

@@ -10,11 +10,12 @@ use Rattle.parity.specs.declared.player.Player.the-variants.{Zero, One}
 use Rattle.arena.specs.Stored.{asked}
 use Rattle.draft.specs.Calls.{turned, turn-over}
 use Rattle.word.specs.declared.verdict.Verdict.the-variants.{Rejected, Accepted}
-use Rattle.inclusion.specs.PairGame.{pair-winner}
-use Rattle.inclusion.specs.Safe.{Contained}
+use Rattle.inclusion.specs.Safe.{Contained as Contained-in}
+use Rattle.contain.specs.declared.fault.Containment.the-variants.{NotShown, Contained}
+use Rattle.colvaje_host.specs.HostAnswer.{host-answer}
 use Rattle.worked_examples.specs.Arenas.{two-bytes, three-bytes, drawn-bytes, two, three, drawn}
 use Rattle.worked_examples.specs.Drafts.{branching-bytes, branching, post, take, mailbox-bytes, mailbox, posted-bytes, posted}
-use Rattle.worked_examples.specs.Answered.{Makes, Answers, Askable}
+use Rattle.worked_examples.specs.Answered.{Makes, Answers, Compares}
 
 pub record Worked : Type 0 where
   -- the bytes are stored arenas
@@ -43,8 +44,9 @@ pub record Worked : Type 0 where
   pub turned-answers : Answers (turned branching) 0 [] (0 ∷ []) Rejected × Answers (turned branching) 1 [] (0 ∷ []) Accepted
   -- post and take in turn; takes for ever after one post
   pub mailbox-answers : Answers mailbox 0 [] (post ∷ take ∷ []) Accepted × Answers mailbox 0 (post ∷ []) (take ∷ []) Rejected
-  -- a word that the mailbox accepts has a post; the other way player 1 wins the pair, and containment is not shown
-  pub askable : Askable mailbox × Askable posted × (mailbox .letters ≡ posted .letters)
-  pub mailbox-in-posted : pair-winner mailbox posted 0 0 ≡ Zero
-  pub mailbox-contained : Contained mailbox posted 0 0
-  pub posted-in-mailbox : pair-winner posted mailbox 0 0 ≡ One
+  -- a word that the mailbox accepts has a post; the other way containment is not shown
+  pub mailbox-in-posted : Compares mailbox 0 posted 0 Contained
+  pub mailbox-contained : Contained-in mailbox posted 0 0
+  pub posted-in-mailbox : Compares posted 0 mailbox 0 NotShown
+  -- the call for C on the two files, over two letters: 1 is contained, 0 not shown
+  pub host-answers : (host-answer 2 mailbox-bytes posted-bytes 0 0 ≡ 1) × (host-answer 2 posted-bytes mailbox-bytes 0 0 ≡ 0)

@@ -28,8 +28,8 @@ returns c = record {
   branching-turns = drafts.branching-turns;
   turned-answers = words.turned-answers;
   mailbox-answers = words.mailbox-answers;
-  askable = (drafts.mailbox-askable, drafts.posted-askable, refl);
   mailbox-in-posted = pairs.mailbox-in-posted;
   mailbox-contained = pairs.mailbox-contained;
   posted-in-mailbox = pairs.posted-in-mailbox;
+  host-answers = pairs.host-answers;
 }

@@ -5,8 +5,9 @@ use native.Mathlib.Omega.{arith}
 use Rattle.draft.specs.Automaton.{state-count, node-count}
 use Rattle.draft.specs.Meaning.{meaning}
 use Rattle.draft.proofs.Drafts.{draft-well-formed}
-use Rattle.contain.proofs.Rows.{some-rows, few-rows}
-use Rattle.contain.proofs.Asked.{answered, some-node}
+use Rattle.runs.proofs.Rows.{some-rows, few-rows}
+use Rattle.contain.proofs.Asked.{answered}
+use Rattle.runs.proofs.Formed.{some-node}
 use Rattle.contain.proofs.pair.maker.make.Needs as need
 
 pub ghost-result : need.ghost-result

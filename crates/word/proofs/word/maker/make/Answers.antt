@@ -4,8 +4,9 @@ use Rattle.draft.specs.Meaning.{meaning}
 use Rattle.draft.proofs.Drafts.{draft-well-formed}
 use Prim.Native.Nat.{_+_}
 use lib.ListN.{length}
-use Rattle.word.proofs.Rows.{some-rows}
-use Rattle.word.proofs.Asked.{answered, some-node}
+use Rattle.runs.proofs.Rows.{some-rows}
+use Rattle.word.proofs.Asked.{answered}
+use Rattle.runs.proofs.Formed.{some-node}
 use Rattle.word.proofs.word.maker.make.Needs as need
 
 pub ghost-result : need.ghost-result

@@ -1,5 +1,5 @@
 use native.Mathlib.Omega.{arith}
-use Rattle.word.proofs.Rows.{step-in}
+use Rattle.word.proofs.StepOf.{step-in}
 use Rattle.word.proofs.word.answers.WordArenaAnswers.successor.Needs as need
 
 pub from-node-requires : need.from-node-requires

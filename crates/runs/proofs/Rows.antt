@@ -1,11 +1,11 @@
--- Pairs in rows: how many there are, and the row of one.
+-- Vertices in rows of one width: how many there are, and the row of one.
 use Prim.Native.Nat.{ℕ, _*_, _<_, _≤_}
 use native.Mathlib.Omega.{arith}
 use native.Mathlib.Nat.{mul-le-mul-right, mul-le-mul}
 
--- a number in one of n rows, of which there are at most 128
-pub in-rows : (v n width : ℕ) → n ≤ 128 → v < n * width → v < 128 * width
-in-rows v n width few l = let h = mul-le-mul-right width few in omega arith
+-- a number in one of n rows, of which there are at most k
+pub in-rows : (k v n width : ℕ) → n ≤ k → v < n * width → v < k * width
+in-rows k v n width few l = let h = mul-le-mul-right width few in omega arith
 
 pub some-rows : (n width : ℕ) → 0 < n → 0 < width → 0 < n * width
 some-rows n width some some′ = let h = mul-le-mul {n₁ = 1} {m₁ = 1} {n₂ = n} {m₂ = width} some some′ in omega arith

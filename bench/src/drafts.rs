@@ -15,6 +15,44 @@ pub struct Draft {
 }
 
 impl Draft {
+    // The draft in the records of a file that needs no check.
+    pub fn load(letters: u8, bytes: &[u8]) -> Draft {
+        let mut draft = Draft { letters, states: Vec::new(), nodes: Vec::new() };
+        for r in bytes.chunks_exact(8) {
+            let (a, b) = (u16::from_le_bytes([r[2], r[3]]), u16::from_le_bytes([r[4], r[5]]));
+            match r[0] {
+                1 => draft.states.push((a, [None; 16])),
+                2 => draft.nodes.push(Node::Leaf(a as u8)),
+                3 => draft.nodes.push(Node::Either(a as u8, b as u8)),
+                4 => draft.nodes.push(Node::Both(a as u8, b as u8)),
+                _ => draft.states[a as usize].1[r[1] as usize] = Some(b as u8),
+            }
+        }
+        draft
+    }
+
+    // 32 states and so many nodes, all letters ruled. Priorities fall along the rules, so it is stratified.
+    pub fn full(letters: u8, shift: u16, nodes: u8) -> Draft {
+        let mut all: Vec<Node> = (0..32).map(Node::Leaf).collect();
+        // node 32 + i joins the leaves i and i + 1, and later nodes join what stands 32 and 31 before them
+        for i in 32..nodes {
+            let (l, r) = (i - 32, i - 31);
+            all.push(if i % 2 == 0 { Node::Either(l, r) } else { Node::Both(l, r) });
+        }
+        // state q leads to itself, or to a node above states at q or below it
+        let states = (0..32u16)
+            .map(|q| {
+                let mut rules = [None; 16];
+                for (letter, rule) in rules.iter_mut().enumerate().take(letters as usize) {
+                    let joined = 31 + q as u8;
+                    *rule = Some(if letter % 2 == 0 || q == 0 || joined >= nodes { q as u8 } else { joined });
+                }
+                (q + shift, rules)
+            })
+            .collect();
+        Draft { letters, states, nodes: all }
+    }
+
     // The draft as the records of a file.
     pub fn records(&self) -> Vec<u8> {
         let mut out = Vec::new();

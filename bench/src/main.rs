@@ -2,7 +2,7 @@
 mod drafts;
 mod solve;
 
-use drafts::{Draft, Node, Pair, Word};
+use drafts::{Draft, Pair, Word};
 use solve::{Arena, Outcome, Stored, solve};
 use std::time::Instant;
 
@@ -79,26 +79,6 @@ fn compare(name: &str, bytes: &[u8], repeats: u32) {
     println!("{name:<28} {rounds:>6} {:>9.3} {:>9.3} {:>7.2}", a * each, b * each, a / b);
 }
 
-// A draft at the limits: 32 states, 128 nodes, all letters ruled. Priorities fall along the rules, so it is stratified.
-fn full_draft(letters: u8, shift: u16) -> Draft {
-    let mut nodes: Vec<Node> = (0..32).map(Node::Leaf).collect();
-    for i in 32..128u8 {
-        let (l, r) = (i - 32, i - 31);
-        nodes.push(if i % 2 == 0 { Node::Either(l, r) } else { Node::Both(l, r) });
-    }
-    // node 32 + i joins the leaves i and i + 1; state q leads to states at q or below it
-    let states = (0..32u16)
-        .map(|q| {
-            let mut rules = [None; 16];
-            for (letter, rule) in rules.iter_mut().enumerate().take(letters as usize) {
-                *rule = Some(if letter % 2 == 0 || q == 0 { q as u8 } else { 31 + q as u8 });
-            }
-            (q + shift, rules)
-        })
-        .collect();
-    Draft { letters, states, nodes }
-}
-
 // Times a question that is asked through the library against the same arena in plain Rust.
 fn question<X: Arena>(name: &str, arena: &X, start: usize, repeats: u32, ask: impl Fn(u32) -> u32, records: usize) {
     let n = arena.count();
@@ -120,7 +100,7 @@ fn question<X: Arena>(name: &str, arena: &X, start: usize, repeats: u32, ask: im
 }
 
 fn accept_at_the_limits() {
-    let draft = full_draft(2, 0);
+    let draft = Draft::full(2, 0, 128);
     let file = draft.records();
     let (prefix, period) = (vec![0u8; 31], vec![1u8; 33]);
     let word = Word { draft: &draft, prefix: &prefix, period: &period };
@@ -131,7 +111,7 @@ fn accept_at_the_limits() {
 }
 
 fn contain_at_the_limits() {
-    let (first, second) = (full_draft(16, 0), full_draft(16, 1));
+    let (first, second) = (Draft::full(16, 0, 128), Draft::full(16, 1, 128));
     let (a, b) = (first.records(), second.records());
     let pair = Pair { a: &first, b: &second };
     let ask = |repeats| unsafe { colvaje_testing_contain(16, a.as_ptr(), a.len(), b.as_ptr(), b.len(), 31, 31, repeats) };

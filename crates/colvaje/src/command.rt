@@ -90,10 +90,8 @@ fn parse_turn(heap: Global, words: &[String]) -> Result<Command, Failure> {
 }
 
 fn parse_accept(heap: Global, words: &[String]) -> Result<Command, Failure> {
-    match words {
-        [why, rest @ ..] if why.as_str() == "--why" => parse_question(heap, rest, true),
-        _ => parse_question(heap, words, false),
-    }
+    let (why, rest) = without_why(words);
+    parse_question(heap, rest, why)
 }
 
 fn parse_question(heap: Global, words: &[String], why: bool) -> Result<Command, Failure> {
@@ -116,10 +114,8 @@ fn parse_question(heap: Global, words: &[String], why: bool) -> Result<Command, 
 }
 
 fn parse_contain(heap: Global, words: &[String]) -> Result<Command, Failure> {
-    match words {
-        [why, rest @ ..] if why.as_str() == "--why" => parse_comparison(heap, rest, true),
-        _ => parse_comparison(heap, words, false),
-    }
+    let (why, rest) = without_why(words);
+    parse_comparison(heap, rest, why)
 }
 
 fn parse_comparison(heap: Global, words: &[String], why: bool) -> Result<Command, Failure> {
@@ -140,6 +136,15 @@ fn parse_comparison(heap: Global, words: &[String], why: bool) -> Result<Command
             }))
         }
         _ => Err(Failure::Usage),
+    }
+}
+
+// Whether the first or the last word asks for the reason, and the other words.
+fn without_why(words: &[String]) -> (bool, &[String]) {
+    match words {
+        [why, rest @ ..] if why.as_str() == "--why" => (true, rest),
+        [rest @ .., why] if why.as_str() == "--why" => (true, rest),
+        _ => (false, words),
     }
 }
 

@@ -30,7 +30,7 @@ pub enum Call {
 
 // The call that a record names: byte 0 is the call, byte 1 a rule's letter, bytes 2 and 3 the first number and
 // bytes 4 and 5 the second, low byte first.
-pub fn decode(record: &[u8; 8]) -> Result<Call, Refusal>
+pub(crate) fn decode(record: &[u8; 8]) -> Result<Call, Refusal>
     ensures { λ r. ⌜ r ≡ decoded (now («record» .entry)) ⌝ }
 {
     let letter = record[1];
@@ -71,7 +71,7 @@ fn only_if(unused_zero: bool, call: Call) -> Result<Call, Refusal>
 }
 
 // The record of a call.
-pub fn encode(call: Call) -> [u8; 8]
+pub(crate) fn encode(call: Call) -> [u8; 8]
     ensures { λ r. ⌜ r ≡ encoded call ⌝ }
 {
     match call {
@@ -102,7 +102,7 @@ fn record_of(kind: u8, letter: u8, first: u16, second: u16) -> [u8; 8]
 }
 
 // Makes the call on a draft.
-pub fn make(draft: &mut Draft, call: Call) -> Result<(), Refusal>
+pub(crate) fn make(draft: &mut Draft, call: Call) -> Result<(), Refusal>
     ensures { λ r. ⌜ (r, meaning (now (draft .exit))) ≡ called (meaning (now (draft .entry))) call ⌝ }
 {
     match call {

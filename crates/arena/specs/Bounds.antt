@@ -11,7 +11,7 @@ pub record Bounds (G : Game) : Type 0 where
   pub moves : (v : ℕ) → v < G.count → 1 ≤ G.degree v
   pub limit : (v : ℕ) → G.degree v ≤ 16
   pub inside : (v i : ℕ) → G.successor v i < G.count
-  pub no-owner : (v : ℕ) → G.count ≤ v → G.owner v ≡ Zero
-  pub no-priority : (v : ℕ) → G.count ≤ v → G.priority v ≡ 0
-  pub no-degree : (v : ℕ) → G.count ≤ v → G.degree v ≡ 0
-  pub no-successor : (v i : ℕ) → G.degree v ≤ i → G.successor v i ≡ 0
+  pub no_owner : (v : ℕ) → G.count ≤ v → G.owner v ≡ Zero
+  pub no_priority : (v : ℕ) → G.count ≤ v → G.priority v ≡ 0
+  pub no_degree : (v : ℕ) → G.count ≤ v → G.degree v ≡ 0
+  pub no_successor : (v i : ℕ) → G.degree v ≤ i → G.successor v i ≡ 0

@@ -7,9 +7,9 @@ use Rattle.std.proofs.lemmas.Bool.{cond-false, le-ltb}
 abbrev pub known : ℕ → ℕ → ℕ
 known n v = cond (nat_lt v n) v 0
 
-pub known-elsewhere : (n v : ℕ) → n ≤ v → known n v ≡ known n 0
-known-elsewhere n v h = cond-false (nat_lt v n) v 0 (le-ltb v n h) ∙ sym (zero-both (nat_lt 0 n))
+pub known_elsewhere : (n v : ℕ) → n ≤ v → known n v ≡ known n 0
+known_elsewhere n v h = cond-false (nat_lt v n) v 0 (le-ltb v n h) ∙ sym (zero_both (nat_lt 0 n))
   where
-    zero-both : (t : Bool) → ◌≡◌ {A = ℕ} (cond t 0 0) 0
-    zero-both true = refl
-    zero-both false = refl
+    zero_both : (t : Bool) → ◌≡◌ {A = ℕ} (cond t 0 0) 0
+    zero_both true = refl
+    zero_both false = refl

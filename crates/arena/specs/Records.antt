@@ -8,14 +8,14 @@ abbrev pub word : List ℕ → ℕ → ℕ
 word b i = slice_index b i + 256 * slice_index b (i + 1)
 
 -- record v: the owner in byte 0, zero in byte 1, the priority in bytes 2 and 3, the two targets in bytes 4 to 7
-abbrev pub owner-byte : List ℕ → ℕ → ℕ
-owner-byte b v = slice_index b (8 * v)
+abbrev pub owner_byte : List ℕ → ℕ → ℕ
+owner_byte b v = slice_index b (8 * v)
 
-abbrev pub zero-byte : List ℕ → ℕ → ℕ
-zero-byte b v = slice_index b (8 * v + 1)
+abbrev pub zero_byte : List ℕ → ℕ → ℕ
+zero_byte b v = slice_index b (8 * v + 1)
 
-abbrev pub stored-priority : List ℕ → ℕ → ℕ
-stored-priority b v = word b (8 * v + 2)
+abbrev pub stored_priority : List ℕ → ℕ → ℕ
+stored_priority b v = word b (8 * v + 2)
 
 abbrev pub target : List ℕ → ℕ → ℕ → ℕ
 target b v i = word b (8 * v + 4 + 2 * i)
@@ -26,9 +26,9 @@ answered owner priority targets =
     cond owner (cond priority (cond targets None (Some VertexTarget)) (Some VertexPriority)) (Some VertexOwner)
 
 -- why record v is none of an arena of n vertices, if so
-abbrev pub record-refusal : List ℕ → ℕ → ℕ → Option Refusal
-record-refusal b n v =
-    answered (nat_le (owner-byte b v) 1 && zero-byte b v == 0) (nat_le (stored-priority b v) 9999) (nat_lt (target b v 0) n && nat_lt (target b v 1) n)
+abbrev pub record_refusal : List ℕ → ℕ → ℕ → Option Refusal
+record_refusal b n v =
+    answered (nat_le (owner_byte b v) 1 && zero_byte b v == 0) (nat_le (stored_priority b v) 9999) (nat_lt (target b v 0) n && nat_lt (target b v 1) n)
 
 abbrev pub is_none : Option Refusal → Bool
 is_none None = true

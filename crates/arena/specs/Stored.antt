@@ -6,7 +6,7 @@ use Rattle.parity.specs.Game.{Game}
 use Rattle.parity.specs.declared.player.Player.{Player}
 use Rattle.parity.specs.declared.player.Player.TheVariants.{Zero, One}
 use Rattle.arena.specs.Known.{known}
-use Rattle.arena.specs.Records.{owner-byte, stored-priority, target, record-refusal}
+use Rattle.arena.specs.Records.{owner_byte, stored_priority, target, record_refusal}
 use Rattle.arena.specs.declared.stored.StoredFault.{StoredFault}
 use Rattle.arena.specs.declared.stored.RecordNumber.{RecordNumber}
 
@@ -17,9 +17,9 @@ first_of None (Some r) v = Some (record { refusal = r; place = Some v })
 first_of None None v = None
 
 -- the first fault among the first v records of an arena of n vertices
-unfoldable pub first-fault : List ℕ → ℕ → ℕ → Option StoredFault
-first-fault b n zero = None
-first-fault b n (suc v) = first_of (first-fault b n v) (record-refusal b n v) v
+unfoldable pub first_fault : List ℕ → ℕ → ℕ → Option StoredFault
+first_fault b n zero = None
+first_fault b n (suc v) = first_of (first_fault b n v) (record_refusal b n v) v
 
 abbrev pub unless : Option StoredFault → ℕ → Result ℕ StoredFault
 unless (Some fault) n = Err fault
@@ -30,7 +30,7 @@ abbrev pub asked : List ℕ → Result ℕ StoredFault
 asked b =
     cond (length b % 8 == 0)
     (cond (nat_le 1 (length b / 8) && nat_le (length b / 8) 4096)
-    (unless (first-fault b (length b / 8) (length b / 8)) (length b / 8))
+    (unless (first_fault b (length b / 8) (length b / 8)) (length b / 8))
     (Err (record { refusal = VertexCount; place = None })))
     (Err (record { refusal = Length; place = None }))
 
@@ -38,16 +38,16 @@ abbrev pub player : ℕ → Player
 player x = cond (x == 0) Zero One
 
 -- the game of n records: even side 0, two moves at each vertex
-abbrev pub stored-game : List ℕ → ℕ → Game
-stored-game b n = record {
+abbrev pub stored_game : List ℕ → ℕ → Game
+stored_game b n = record {
   count = n;
-  even-side = Zero;
-  owner = λ v. cond (nat_lt v n) (player (owner-byte b v)) Zero;
-  priority = λ v. cond (nat_lt v n) (stored-priority b v) 0;
+  even_side = Zero;
+  owner = λ v. cond (nat_lt v n) (player (owner_byte b v)) Zero;
+  priority = λ v. cond (nat_lt v n) (stored_priority b v) 0;
   degree = λ v. cond (nat_lt v n) 2 0;
   successor = λ v i. cond (nat_lt v n) (cond (nat_lt i 2) (target b v i) 0) 0;
 }
 
 -- the place of a vertex is its record's number
-abbrev pub record-number : ℕ → ℕ → RecordNumber
-record-number n v = record { number = known n v }
+abbrev pub record_number : ℕ → ℕ → RecordNumber
+record_number n v = record { number = known n v }

@@ -26,7 +26,7 @@ pub trait Arena {
 
     // The player whom even priorities favour.
     fn even_side(&self) -> Player
-        ensures { result ≡ (meaning self.now).even-side };
+        ensures { result ≡ (meaning self.now).even_side };
 
     fn owner(&self, v: usize) -> Player
         ensures { result ≡ (meaning self.now).owner v };

@@ -1,6 +1,6 @@
 // The mirror of any arena: owners and even sides exchanged, all else kept.
 ghost use Rattle.parity.specs.Mirror.{mirror};
-ghost use Rattle.arena.specs.MirrorBounds.{mirror-bounds};
+ghost use Rattle.arena.specs.MirrorBounds.{mirror_bounds};
 
 use crate::Arena;
 use parity::Player;
@@ -17,7 +17,7 @@ impl<X: Arena> Arena for Mirror<'_, X> {
 
     ghost places = { λ m v. X.Arena.places m.arena.now v };
 
-    ghost bounds = { λ m. mirror-bounds (X.Arena.meaning m.arena.now) (X.Arena.bounds m.arena.now) };
+    ghost bounds = { λ m. mirror_bounds (X.Arena.meaning m.arena.now) (X.Arena.bounds m.arena.now) };
 
     ghost elsewhere = { λ m v h. X.Arena.elsewhere m.arena.now v h };
 

@@ -1,6 +1,6 @@
 // A stored arena over lent bytes: 8-byte records, one a vertex.
 ghost use Rattle.std.specs.Prelude.{◌≡◌, ℕ, ◌*◌, ◌<◌, ◌≤◌, true, length};
-ghost use Rattle.arena.specs.Records.{record-refusal, is_none};
+ghost use Rattle.arena.specs.Records.{record_refusal, is_none};
 
 use refusal::Refusal;
 
@@ -15,7 +15,7 @@ pub struct Stored<'a> {
     ghost whole: { length bytes.now ≡ 8 * count },
     ghost some: { 1 ≤ count },
     ghost few: { count ≤ 4096 },
-    ghost each: { (v : ℕ) → v < count → is_none (record-refusal bytes.now count v) ≡ true },
+    ghost each: { (v : ℕ) → v < count → is_none (record_refusal bytes.now count v) ≡ true },
 }
 
 // What a vertex of a stored arena stands for.

@@ -1,8 +1,8 @@
 // The call for C: whether one draft file is contained in another.
 ghost use Rattle.std.specs.Prelude.{◌≡◌};
-ghost use Rattle.draft.specs.Load.{load-file};
+ghost use Rattle.draft.specs.Load.{load_file};
 ghost use Rattle.draft.specs.Meaning.{meaning as automaton};
-ghost use Rattle.colvaje_host.specs.HostAnswer.{refused, compared, once-loaded, host-answer, As-memory-allows};
+ghost use Rattle.colvaje_host.specs.HostAnswer.{refused, compared, once_loaded, host_answer, AsMemoryAllows};
 
 use contain::{Which, contain};
 use draft::{Draft, load};
@@ -30,7 +30,7 @@ pub extern "C" fn colvaje_contain(
     second_state: u32,
     heap: Global,
 ) -> u32
-    ensures { As-memory-allows (host-answer letters first.now second.now first_state second_state) result }
+    ensures { AsMemoryAllows (host_answer letters first.now second.now first_state second_state) result }
 {
     let Ok(mut a) = Draft::new(heap) else {
         return refused(Some(Which::First), NO_MEMORY);
@@ -59,7 +59,7 @@ fn load_both(
     first_state: u32,
     second_state: u32,
 ) -> u32
-    ensures { result ≡ once-loaded (load-file (automaton a.old) letters first.now) (load-file (automaton b.old) letters second.now) first_state second_state }
+    ensures { result ≡ once_loaded (load_file (automaton a.old) letters first.now) (load_file (automaton b.old) letters second.now) first_state second_state }
 {
     if let Err(fault) = load(a, letters, first) {
         return refused(Some(Which::First), fault.refusal.number());

@@ -1,8 +1,8 @@
 // Whether one draft is contained in another.
 ghost use Rattle.std.specs.Prelude.{◌≡◌};
 ghost use Rattle.draft.specs.Meaning.{meaning as automaton};
-ghost use Rattle.contain.specs.Containing.{verdict-of, contain-answer, Planned, Yes-is-safe};
-ghost use Rattle.contain.specs.ExchangeOfAnswers.{Exchange-of-answers};
+ghost use Rattle.contain.specs.Containing.{verdict_of, contain_answer, Planned, YesIsSafe};
+ghost use Rattle.contain.specs.ExchangeOfAnswers.{ExchangeOfAnswers};
 
 use crate::fault::{ContainFault, Containment};
 use crate::pair::{ask, make};
@@ -19,10 +19,10 @@ pub fn contain<'a>(
     second_state: usize,
     out: &mut [Outcome],
 ) -> Result<Containment, ContainFault>
-    ensures answer { (result, out.new) ≡ contain-answer (automaton first.now) first_state (automaton second.now) second_state out.old }
+    ensures answer { (result, out.new) ≡ contain_answer (automaton first.now) first_state (automaton second.now) second_state out.old }
     ensures planned { Planned result (automaton first.now) first_state (automaton second.now) second_state }
-    ensures safe { Yes-is-safe result (automaton first.now) first_state (automaton second.now) second_state }
-    ensures exchanged { Exchange-of-answers }
+    ensures safe { YesIsSafe result (automaton first.now) first_state (automaton second.now) second_state }
+    ensures exchanged { ExchangeOfAnswers }
 {
     decide(first, first_state, second, second_state, out)
 }
@@ -35,7 +35,7 @@ fn decide<'a>(
     second_state: usize,
     out: &mut [Outcome],
 ) -> Result<Containment, ContainFault>
-    ensures { (result, out.new) ≡ contain-answer (automaton first.now) first_state (automaton second.now) second_state out.old }
+    ensures { (result, out.new) ≡ contain_answer (automaton first.now) first_state (automaton second.now) second_state out.old }
 {
     ask(first, first_state, second, second_state)?;
     let arena = make(first, first_state, second, second_state);
@@ -45,7 +45,7 @@ fn decide<'a>(
 }
 
 fn verdict(winner: Player) -> Containment
-    ensures { result ≡ verdict-of winner }
+    ensures { result ≡ verdict_of winner }
 {
     match winner {
         Player::Zero => Containment::Contained,

@@ -1,6 +1,6 @@
 // What containment answers, and why it may refuse.
 ghost use Rattle.std.specs.Prelude.{◌≡◌};
-ghost use Rattle.contain.specs.Answers.{verdict-number, draft-number, of_none};
+ghost use Rattle.contain.specs.Answers.{verdict_number, draft_number, of_none};
 
 use refusal::Refusal;
 
@@ -14,7 +14,7 @@ pub enum Containment {
 impl Containment {
     // 0 or 1.
     pub fn number(self) -> u8
-        ensures { result ≡ verdict-number self }
+        ensures { result ≡ verdict_number self }
     {
         self as u8
     }
@@ -30,7 +30,7 @@ pub enum Which {
 impl Which {
     // 1 or 2.
     pub fn number(self) -> u8
-        ensures { result ≡ draft-number self }
+        ensures { result ≡ draft_number self }
     {
         self as u8
     }

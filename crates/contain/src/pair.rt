@@ -1,6 +1,6 @@
 // The arena of two drafts: pairs of their states and pairs of their nodes, a view of both, without a copy.
 ghost use Rattle.std.specs.Prelude.{◌≡◌, ◌+◌, ◌*◌, ◌<◌, ◌≤◌, true};
-ghost use Rattle.draft.specs.Automaton.{state-count, node-count, is-complete};
+ghost use Rattle.draft.specs.Automaton.{state_count, node_count, is_complete};
 ghost use Rattle.draft.specs.Meaning.{meaning as automaton};
 
 use draft::Draft;
@@ -24,17 +24,17 @@ pub struct PairArena<'a> {
     stated: usize,
     count: usize,
     ghost letters_are: { letters ≡ (automaton first.now).letters },
-    ghost states_are: { states ≡ state-count (automaton second.now) },
-    ghost nodes_are: { nodes ≡ node-count (automaton second.now) },
-    ghost stated_are: { stated ≡ state-count (automaton first.now) * states },
-    ghost count_is: { count ≡ stated + node-count (automaton first.now) * nodes },
+    ghost states_are: { states ≡ state_count (automaton second.now) },
+    ghost nodes_are: { nodes ≡ node_count (automaton second.now) },
+    ghost stated_are: { stated ≡ state_count (automaton first.now) * states },
+    ghost count_is: { count ≡ stated + node_count (automaton first.now) * nodes },
     ghost some: { 0 < count },
     ghost few: { count ≤ 17408 },
-    ghost some_first: { 0 < state-count (automaton first.now) },
+    ghost some_first: { 0 < state_count (automaton first.now) },
     ghost some_state: { 0 < states },
     ghost some_node: { 0 < nodes },
-    ghost first_complete: { is-complete (automaton first.now) ≡ true },
-    ghost second_complete: { is-complete (automaton second.now) ≡ true },
+    ghost first_complete: { is_complete (automaton first.now) ≡ true },
+    ghost second_complete: { is_complete (automaton second.now) ≡ true },
     ghost same_letters: { (automaton first.now).letters ≡ (automaton second.now).letters },
 }
 

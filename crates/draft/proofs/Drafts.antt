@@ -2,14 +2,14 @@
 use Rattle.std.proofs.Common.{arith}
 use Rattle.draft.specs.declared.draft.Draft.{Draft}
 use Rattle.draft.specs.Meaning.{meaning}
-use Rattle.draft.specs.WellFormed.{Well-formed}
+use Rattle.draft.specs.WellFormed.{WellFormed}
 
-pub draft-well-formed : (d : Draft) → Well-formed (meaning d)
-draft-well-formed d = record {
-  some-letters = d.some_letters;
-  few-letters = d.few_letters;
-  few-states = omega (arith, d.states.ok.0, d.few_states);
-  few-nodes = omega (arith, d.nodes.ok.0, d.few_nodes);
+pub draft_well_formed : (d : Draft) → WellFormed (meaning d)
+draft_well_formed d = record {
+  some_letters = d.some_letters;
+  few_letters = d.few_letters;
+  few_states = omega (arith, d.states.ok.0, d.few_states);
+  few_nodes = omega (arith, d.nodes.ok.0, d.few_nodes);
   low = d.low;
   full = d.full;
   lettered = d.lettered;

@@ -3,14 +3,14 @@ use Rattle.std.proofs.Common.{◌≡◌, ℕ, ◌+◌, ◌<◌, List, [], length
 use Rattle.std.proofs.lemmas.List.{at_drop_more}
 use Rattle.draft.specs.Automaton.{Automaton}
 use Rattle.draft.specs.declared.fault.LoadFault.{LoadFault}
-use Rattle.draft.specs.Load.{Loaded, take-record, take-records, onward}
+use Rattle.draft.specs.Load.{Loaded, take_record, take_records, onward}
 
 pub take_more : (a b : Automaton) (i : ℕ) (rs : List (List ℕ)) → i < length rs
-    → ◌≡◌ {A = Loaded} (Ok tt, b) (take-record a i (get_or rs i [])) → take-records b (i + 1) (drop (i + 1) rs) ≡ take-records a i (drop i rs)
+    → ◌≡◌ {A = Loaded} (Ok tt, b) (take_record a i (get_or rs i [])) → take_records b (i + 1) (drop (i + 1) rs) ≡ take_records a i (drop i rs)
 take_more a b i rs l e =
-    sym (at_drop_more (take-records a i) rs i [] l ∙ ap (λ (o : Loaded). onward o (take-records o.1 (i + 1) (drop (i + 1) rs))) (sym e))
+    sym (at_drop_more (take_records a i) rs i [] l ∙ ap (λ (o : Loaded). onward o (take_records o.1 (i + 1) (drop (i + 1) rs))) (sym e))
 
-pub take-stop : (a b : Automaton) (i : ℕ) (rs : List (List ℕ)) (f : LoadFault) → i < length rs
-    → ◌≡◌ {A = Loaded} (Err f, b) (take-record a i (get_or rs i [])) → ◌≡◌ {A = Loaded} (Err f, b) (take-records a i (drop i rs))
-take-stop a b i rs f l e =
-    sym (at_drop_more (take-records a i) rs i [] l ∙ ap (λ (o : Loaded). onward o (take-records o.1 (i + 1) (drop (i + 1) rs))) (sym e))
+pub take_stop : (a b : Automaton) (i : ℕ) (rs : List (List ℕ)) (f : LoadFault) → i < length rs
+    → ◌≡◌ {A = Loaded} (Err f, b) (take_record a i (get_or rs i [])) → ◌≡◌ {A = Loaded} (Err f, b) (take_records a i (drop i rs))
+take_stop a b i rs f l e =
+    sym (at_drop_more (take_records a i) rs i [] l ∙ ap (λ (o : Loaded). onward o (take_records o.1 (i + 1) (drop (i + 1) rs))) (sym e))

@@ -3,15 +3,15 @@ use Rattle.std.proofs.Common.{◌≡◌, ℕ, ◌+◌, ◌<◌, ◌≤◌, List,
 use Rattle.std.specs.List.{flat_map}
 use Rattle.std.proofs.lemmas.List.{append-nil, append_assoc, at_drop_more, at_drop_all}
 
-pub joined-append : {X Y : Type 0} (f : X → List Y) (xs ys : List X) → flat_map f (xs ++ ys) ≡ flat_map f xs ++ flat_map f ys
-joined-append f [] ys = refl
-joined-append f (x ∷ xs) ys = ap (λ l. f x ++ l) (joined-append f xs ys) ∙ sym (append_assoc (f x) (flat_map f xs) (flat_map f ys))
+pub joined_append : {X Y : Type 0} (f : X → List Y) (xs ys : List X) → flat_map f (xs ++ ys) ≡ flat_map f xs ++ flat_map f ys
+joined_append f [] ys = refl
+joined_append f (x ∷ xs) ys = ap (λ l. f x ++ l) (joined_append f xs ys) ∙ sym (append_assoc (f x) (flat_map f xs) (flat_map f ys))
 
 -- F is what the list gives from place i on, and G what it gives from the next place on
-pub put-more : {X : Type 0} (F G : List X → List ℕ) (xs : List X) (i : ℕ) (d : X) (before after piece : List ℕ)
+pub put_more : {X : Type 0} (F G : List X → List ℕ) (xs : List X) (i : ℕ) (d : X) (before after piece : List ℕ)
     → ((rest : List X) → F (get_or xs i d ∷ rest) ≡ piece ++ G rest) → i < length xs → after ≡ before ++ piece
     → after ++ G (drop (i + 1) xs) ≡ before ++ F (drop i xs)
-put-more F G xs i d before after piece step l e =
+put_more F G xs i d before after piece step l e =
     ap (λ (bs : List ℕ). bs ++ G (drop (i + 1) xs)) e
     ∙ (append_assoc before piece (G (drop (i + 1) xs)) ∙ ap (λ (bs : List ℕ). before ++ bs) (sym (at_drop_more F xs i d l ∙ step (drop (i + 1) xs))))
 

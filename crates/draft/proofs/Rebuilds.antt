@@ -6,12 +6,12 @@ use Rattle.draft.specs.declared.parts.Node.TheVariants.{Leaf, Either, Both}
 use Rattle.draft.specs.declared.parts.State.{State}
 use Rattle.draft.specs.declared.records.Call.{Call}
 use Rattle.draft.specs.declared.records.Call.TheVariants.{Rule}
-use Rattle.draft.specs.Automaton.{Automaton, empty, blank, state-count, node-count, node_of}
+use Rattle.draft.specs.Automaton.{Automaton, empty, blank, state_count, node_count, node_of}
 use Rattle.draft.specs.Calls.{fresh, ruled}
-use Rattle.draft.specs.WellFormed.{Well-formed, Fits}
-use Rattle.draft.specs.Written.{state-call, node_call, rule-calls, all-rule-calls, calls-of}
-use Rattle.draft.proofs.Children.{either-children, both-children, leaf-state}
-use Rattle.draft.proofs.Heeds.{heeds-state, heeds-node, heeds-rule}
+use Rattle.draft.specs.WellFormed.{WellFormed, Fits}
+use Rattle.draft.specs.Written.{state_call, node_call, rule_calls, all_rule_calls, calls_of}
+use Rattle.draft.proofs.Children.{either_children, both_children, leaf_state}
+use Rattle.draft.proofs.Heeds.{heeds_state, heeds_node, heeds_rule}
 use Rattle.draft.proofs.Runs.{Heeds, Runs, runs_append}
 
 abbrev of : ℕ → List State → List Node → Automaton
@@ -21,28 +21,28 @@ of n ss ns = record { letters = n; states = ss; nodes = ns }
 abbrev bare : State → State
 bare s = fresh s.priority
 
-states-run : (n : ℕ) (ss us : List State) → length us + length ss ≤ 32 → ((q : ℕ) → q < length ss → (get_or ss q blank).priority ≤ 999)
-    → Runs (of n us []) (map state-call ss) (of n (us ++ map bare ss) [])
-states-run n [] us few low = ap (λ (l : List State). of n l []) (sym (append-nil us))
-states-run n (s ∷ ss) us few low =
+states_run : (n : ℕ) (ss us : List State) → length us + length ss ≤ 32 → ((q : ℕ) → q < length ss → (get_or ss q blank).priority ≤ 999)
+    → Runs (of n us []) (map state_call ss) (of n (us ++ map bare ss) [])
+states_run n [] us few low = ap (λ (l : List State). of n l []) (sym (append-nil us))
+states_run n (s ∷ ss) us few low =
     let e = length_push us (bare s) in (
       of n (us ++ bare s ∷ []) [],
-      heeds-state (of n us []) s.priority (low 0 (omega arith)) (omega arith),
-      subst (λ (l : List State). Runs (of n (us ++ bare s ∷ []) []) (map state-call ss) (of n l [])) (append_assoc us (bare s ∷ []) (map bare ss))
-          (states-run n ss (us ++ bare s ∷ []) (omega arith) (λ q q<. low (suc q) (omega arith))),
+      heeds_state (of n us []) s.priority (low 0 (omega arith)) (omega arith),
+      subst (λ (l : List State). Runs (of n (us ++ bare s ∷ []) []) (map state_call ss) (of n l [])) (append_assoc us (bare s ∷ []) (map bare ss))
+          (states_run n ss (us ++ bare s ∷ []) (omega arith) (λ q q<. low (suc q) (omega arith))),
     )
 
-nodes-run : (n : ℕ) (ss : List State) (ns us : List Node) → length us + length ns ≤ 128
+nodes_run : (n : ℕ) (ss : List State) (ns us : List Node) → length us + length ns ≤ 128
     → ((k : ℕ) → k < length ns → Fits (length ss) (length us + k) (get_or ns k (Leaf 0)))
     → Runs (of n ss us) (map node_call ns) (of n ss (us ++ ns))
-nodes-run n ss [] us few fits = ap (λ (l : List Node). of n ss l) (sym (append-nil us))
-nodes-run n ss (t ∷ ns) us few fits =
+nodes_run n ss [] us few fits = ap (λ (l : List Node). of n ss l) (sym (append-nil us))
+nodes_run n ss (t ∷ ns) us few fits =
     let e = length_push us t in
     let here : length us + 0 ≡ length us = omega arith in (
       of n ss (us ++ t ∷ []),
-      heeds-node (of n ss us) t (omega arith) (subst (λ (x : ℕ). Fits (length ss) x t) here (fits 0 (omega arith))),
+      heeds_node (of n ss us) t (omega arith) (subst (λ (x : ℕ). Fits (length ss) x t) here (fits 0 (omega arith))),
       subst (λ (l : List Node). Runs (of n ss (us ++ t ∷ [])) (map node_call ns) (of n ss l)) (append_assoc us (t ∷ []) ns)
-          (nodes-run n ss ns (us ++ t ∷ []) (omega arith)
+          (nodes_run n ss ns (us ++ t ∷ []) (omega arith)
           (λ k k<. (let place : length us + suc k ≡ length (us ++ t ∷ []) + k = omega arith in
           subst (λ (x : ℕ). Fits (length ss) x (get_or ns k (Leaf 0))) place (fits (suc k) (omega arith))))),
     )
@@ -52,61 +52,61 @@ module _ (n : ℕ) (ns : List Node) (p q : ℕ) (us rest : List State) (here : l
   abbrev row : List (Option ℕ) → State
   row l = record { priority = p; rules = l }
 
-  abbrev with-rules : List (Option ℕ) → Automaton
-  with-rules l = of n (us ++ row l ∷ rest) ns
+  abbrev with_rules : List (Option ℕ) → Automaton
+  with_rules l = of n (us ++ row l ∷ rest) ns
 
-  moved : (cs : List Call) (l l' m m' : List (Option ℕ)) → l ≡ l' → m ≡ m' → Runs (with-rules l) cs (with-rules m) → Runs (with-rules l') cs (with-rules m')
+  moved : (cs : List Call) (l l' m m' : List (Option ℕ)) → l ≡ l' → m ≡ m' → Runs (with_rules l) cs (with_rules m) → Runs (with_rules l') cs (with_rules m')
   moved cs l l' m m' e f r =
-      subst (λ (k : List (Option ℕ)). Runs (with-rules k) cs (with-rules m')) e (subst (λ (k : List (Option ℕ)). Runs (with-rules l) cs (with-rules k)) f r)
+      subst (λ (k : List (Option ℕ)). Runs (with_rules k) cs (with_rules m')) e (subst (λ (k : List (Option ℕ)). Runs (with_rules l) cs (with_rules k)) f r)
 
   heeds : (vs more : List (Option ℕ)) (letter x : ℕ) → length vs ≡ letter → letter < n → x < length ns
-      → Heeds (with-rules (vs ++ None ∷ more)) (Rule q letter x) (with-rules (vs ++ Some x ∷ more))
+      → Heeds (with_rules (vs ++ None ∷ more)) (Rule q letter x) (with_rules (vs ++ Some x ∷ more))
   heeds vs more letter x e l< x< =
       let long = length-append us (row (vs ++ None ∷ more) ∷ rest) in
       let new : ruled (get_or (us ++ row (vs ++ None ∷ more) ∷ rest) q blank) letter x ≡ row (vs ++ Some x ∷ more) =
       ap (λ (s : State). ruled s letter x) (get_or_at us (row (vs ++ None ∷ more)) rest blank q here) ∙ ap row (set_at vs None more (Some x) letter e) in
-      heeds-rule (with-rules (vs ++ None ∷ more)) q letter x (omega arith) l< x<
+      heeds_rule (with_rules (vs ++ None ∷ more)) q letter x (omega arith) l< x<
       ∙ ap (λ (l : List State). (Ok tt, of n l ns))
       (ap (set (us ++ row (vs ++ None ∷ more) ∷ rest) q) new ∙ set_at us (row (vs ++ None ∷ more)) rest (row (vs ++ Some x ∷ more)) q here)
 
-  row-run : (rs vs : List (Option ℕ)) (letter : ℕ) → length vs ≡ letter → ((k x : ℕ) → get_or rs k None ≡ Some x → (letter + k < n) × (x < length ns))
-      → Runs (with-rules (vs ++ replicate (length rs) None)) (rule-calls q letter rs) (with-rules (vs ++ rs))
-  row-run [] vs letter e known = refl
-  row-run (None ∷ rs) vs letter e known =
-      moved (rule-calls q (letter + 1) rs) _ _ _ _ (append_assoc vs (None ∷ []) (replicate (length rs) None)) (append_assoc vs (None ∷ []) rs)
-      (row-run rs (vs ++ None ∷ []) (letter + 1) (length_push vs None ∙ ap (λ (k : ℕ). k + 1) e) (λ k x h. (let g = known (suc k) x h in (omega arith, g.1))))
-  row-run (Some y ∷ rs) vs letter e known =
+  row_run : (rs vs : List (Option ℕ)) (letter : ℕ) → length vs ≡ letter → ((k x : ℕ) → get_or rs k None ≡ Some x → (letter + k < n) × (x < length ns))
+      → Runs (with_rules (vs ++ replicate (length rs) None)) (rule_calls q letter rs) (with_rules (vs ++ rs))
+  row_run [] vs letter e known = refl
+  row_run (None ∷ rs) vs letter e known =
+      moved (rule_calls q (letter + 1) rs) _ _ _ _ (append_assoc vs (None ∷ []) (replicate (length rs) None)) (append_assoc vs (None ∷ []) rs)
+      (row_run rs (vs ++ None ∷ []) (letter + 1) (length_push vs None ∙ ap (λ (k : ℕ). k + 1) e) (λ k x h. (let g = known (suc k) x h in (omega arith, g.1))))
+  row_run (Some y ∷ rs) vs letter e known =
       let g = known 0 y refl in (
-        with-rules (vs ++ Some y ∷ replicate (length rs) None),
+        with_rules (vs ++ Some y ∷ replicate (length rs) None),
         heeds vs (replicate (length rs) None) letter y e (omega arith) g.1,
-        moved (rule-calls q (letter + 1) rs) _ _ _ _ (append_assoc vs (Some y ∷ []) (replicate (length rs) None)) (append_assoc vs (Some y ∷ []) rs)
-            (row-run rs (vs ++ Some y ∷ []) (letter + 1) (length_push vs (Some y) ∙ ap (λ (k : ℕ). k + 1) e) (λ k x h. (let f = known (suc k) x h in (omega arith, f.1)))),
+        moved (rule_calls q (letter + 1) rs) _ _ _ _ (append_assoc vs (Some y ∷ []) (replicate (length rs) None)) (append_assoc vs (Some y ∷ []) rs)
+            (row_run rs (vs ++ Some y ∷ []) (letter + 1) (length_push vs (Some y) ∙ ap (λ (k : ℕ). k + 1) e) (λ k x h. (let f = known (suc k) x h in (omega arith, f.1)))),
       )
 
-rules-run : (n : ℕ) (ns : List Node) (ss us : List State) (q : ℕ) → length us ≡ q
+rules_run : (n : ℕ) (ns : List Node) (ss us : List State) (q : ℕ) → length us ≡ q
     → ((k : ℕ) → k < length ss → length (get_or ss k blank).rules ≡ 16)
     → ((k letter x : ℕ) → get_or (get_or ss k blank).rules letter None ≡ Some x → (letter < n) × (x < length ns))
-    → Runs (of n (us ++ map bare ss) ns) (all-rule-calls q ss) (of n (us ++ ss) ns)
-rules-run n ns [] us q e full known = refl
-rules-run n ns (s ∷ ss) us q e full known =
-    runs_append (rule-calls q 0 s.rules) (all-rule-calls (q + 1) ss) _ (of n (us ++ s ∷ map bare ss) ns) _
-    (subst (λ (k : ℕ). Runs (of n (us ++ record { priority = s.priority; rules = replicate k None } ∷ map bare ss) ns) (rule-calls q 0 s.rules) (of n (us ++ s ∷ map bare ss) ns)) (full 0 (omega arith))
-    (row-run n ns s.priority q us (map bare ss) e s.rules [] 0 refl (λ k x h. (let g = known 0 k x h in (omega arith, g.1)))))
-    (subst (λ (l : List State). Runs (of n (us ++ s ∷ map bare ss) ns) (all-rule-calls (q + 1) ss) (of n l ns)) (append_assoc us (s ∷ []) ss)
-    (subst (λ (l : List State). Runs (of n l ns) (all-rule-calls (q + 1) ss) (of n ((us ++ s ∷ []) ++ ss) ns)) (append_assoc us (s ∷ []) (map bare ss))
-    (rules-run n ns ss (us ++ s ∷ []) (q + 1) (length_push us s ∙ ap (λ (k : ℕ). k + 1) e) (λ k k<. full (suc k) (omega arith)) (λ k letter x h. known (suc k) letter x h))))
+    → Runs (of n (us ++ map bare ss) ns) (all_rule_calls q ss) (of n (us ++ ss) ns)
+rules_run n ns [] us q e full known = refl
+rules_run n ns (s ∷ ss) us q e full known =
+    runs_append (rule_calls q 0 s.rules) (all_rule_calls (q + 1) ss) _ (of n (us ++ s ∷ map bare ss) ns) _
+    (subst (λ (k : ℕ). Runs (of n (us ++ record { priority = s.priority; rules = replicate k None } ∷ map bare ss) ns) (rule_calls q 0 s.rules) (of n (us ++ s ∷ map bare ss) ns)) (full 0 (omega arith))
+    (row_run n ns s.priority q us (map bare ss) e s.rules [] 0 refl (λ k x h. (let g = known 0 k x h in (omega arith, g.1)))))
+    (subst (λ (l : List State). Runs (of n (us ++ s ∷ map bare ss) ns) (all_rule_calls (q + 1) ss) (of n l ns)) (append_assoc us (s ∷ []) ss)
+    (subst (λ (l : List State). Runs (of n l ns) (all_rule_calls (q + 1) ss) (of n ((us ++ s ∷ []) ++ ss) ns)) (append_assoc us (s ∷ []) (map bare ss))
+    (rules_run n ns ss (us ++ s ∷ []) (q + 1) (length_push us s ∙ ap (λ (k : ℕ). k + 1) e) (λ k k<. full (suc k) (omega arith)) (λ k letter x h. known (suc k) letter x h))))
 
-node-fits : (b : Automaton) (x : ℕ) → Well-formed b → x < node-count b → (t : Node) → node_of b x ≡ t → Fits (state-count b) x t
-node-fits b x w x< (Leaf q) e = leaf-state b x q w x< e
-node-fits b x w x< (Either l r) e = either-children b x l r w e
-node-fits b x w x< (Both l r) e = both-children b x l r w e
+node_fits : (b : Automaton) (x : ℕ) → WellFormed b → x < node_count b → (t : Node) → node_of b x ≡ t → Fits (state_count b) x t
+node_fits b x w x< (Leaf q) e = leaf_state b x q w x< e
+node_fits b x w x< (Either l r) e = either_children b x l r w e
+node_fits b x w x< (Both l r) e = both_children b x l r w e
 
-pub rebuilds : (b : Automaton) → Well-formed b → Runs (empty b.letters) (calls-of b) b
+pub rebuilds : (b : Automaton) → WellFormed b → Runs (empty b.letters) (calls_of b) b
 rebuilds b w =
-    runs_append (map state-call b.states) (map node_call b.nodes ++ all-rule-calls 0 b.states) (empty b.letters) (of b.letters (map bare b.states) []) b
-    (states-run b.letters b.states [] (let h = w.few-states in omega arith) w.low)
-    (runs_append (map node_call b.nodes) (all-rule-calls 0 b.states) (of b.letters (map bare b.states) []) (of b.letters (map bare b.states) b.nodes) b
-    (nodes-run b.letters (map bare b.states) b.nodes [] (let h = w.few-nodes in omega arith)
-    (λ k k<. (let same : state-count b ≡ length (map bare b.states) = sym (length-map b.states bare) in let place : k ≡ 0 + k = omega arith in
-    subst (λ (m : ℕ). Fits m (0 + k) (node_of b k)) same (subst (λ (x : ℕ). Fits (state-count b) x (node_of b k)) place (node-fits b k w k< (node_of b k) refl)))))
-    (rules-run b.letters b.nodes b.states [] 0 refl w.full (λ k letter x h. (w.lettered k letter x h, w.named k letter x h))))
+    runs_append (map state_call b.states) (map node_call b.nodes ++ all_rule_calls 0 b.states) (empty b.letters) (of b.letters (map bare b.states) []) b
+    (states_run b.letters b.states [] (let h = w.few_states in omega arith) w.low)
+    (runs_append (map node_call b.nodes) (all_rule_calls 0 b.states) (of b.letters (map bare b.states) []) (of b.letters (map bare b.states) b.nodes) b
+    (nodes_run b.letters (map bare b.states) b.nodes [] (let h = w.few_nodes in omega arith)
+    (λ k k<. (let same : state_count b ≡ length (map bare b.states) = sym (length-map b.states bare) in let place : k ≡ 0 + k = omega arith in
+    subst (λ (m : ℕ). Fits m (0 + k) (node_of b k)) same (subst (λ (x : ℕ). Fits (state_count b) x (node_of b k)) place (node_fits b k w k< (node_of b k) refl)))))
+    (rules_run b.letters b.nodes b.states [] 0 refl w.full (λ k letter x h. (w.lettered k letter x h, w.named k letter x h))))

@@ -1,6 +1,6 @@
 -- Weak alternating parity automata: what a draft stands for, and how it is read.
 use Rattle.std.specs.Prelude.{ℕ, Bool, List, [], length, get_or, is_some, None, Option, slice_index_or}
-use Rattle.parity.specs.Below.{all-below}
+use Rattle.parity.specs.Below.{all_below}
 use Rattle.draft.specs.declared.parts.Node.{Node}
 use Rattle.draft.specs.declared.parts.Node.TheVariants.{Leaf}
 use Rattle.draft.specs.declared.parts.State.{State}
@@ -19,28 +19,28 @@ empty n = record { letters = n; states = []; nodes = [] }
 abbrev pub blank : State
 blank = record { priority = 0; rules = [] }
 
-abbrev pub state-count : Automaton → ℕ
-state-count a = length a.states
+abbrev pub state_count : Automaton → ℕ
+state_count a = length a.states
 
-abbrev pub node-count : Automaton → ℕ
-node-count a = length a.nodes
+abbrev pub node_count : Automaton → ℕ
+node_count a = length a.nodes
 
 -- 0 where there is no such state
-abbrev pub priority-of : Automaton → ℕ → ℕ
-priority-of a q = (get_or a.states q blank).priority
+abbrev pub priority_of : Automaton → ℕ → ℕ
+priority_of a q = (get_or a.states q blank).priority
 
 -- the node to which a letter leads a state, if it has a rule for it
-abbrev pub rule-of : Automaton → ℕ → ℕ → Option ℕ
-rule-of a q letter = slice_index_or (get_or a.states q blank).rules letter None
+abbrev pub rule_of : Automaton → ℕ → ℕ → Option ℕ
+rule_of a q letter = slice_index_or (get_or a.states q blank).rules letter None
 
 -- the leaf of state 0 where there is no such node
 abbrev pub node_of : Automaton → ℕ → Node
 node_of a x = slice_index_or a.nodes x (Leaf 0)
 
 -- the state has a rule for each letter
-unfoldable pub is-ruled : Automaton → ℕ → Bool
-is-ruled a q = all-below a.letters (λ letter. is_some (rule-of a q letter))
+unfoldable pub is_ruled : Automaton → ℕ → Bool
+is_ruled a q = all_below a.letters (λ letter. is_some (rule_of a q letter))
 
 -- each state has a rule for each letter
-unfoldable pub is-complete : Automaton → Bool
-is-complete a = all-below (state-count a) (is-ruled a)
+unfoldable pub is_complete : Automaton → Bool
+is_complete a = all_below (state_count a) (is_ruled a)

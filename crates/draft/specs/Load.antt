@@ -9,7 +9,7 @@ use Rattle.draft.specs.declared.fault.Layer.TheVariants.{File, Record, Draft}
 use Rattle.draft.specs.declared.loading.Placed.{Placed}
 use Rattle.draft.specs.declared.records.Call.{Call}
 use Rattle.draft.specs.Automaton.{Automaton, empty}
-use Rattle.draft.specs.Calls.{letters-fit}
+use Rattle.draft.specs.Calls.{letters_fit}
 use Rattle.draft.specs.Records.{decoded, called}
 
 abbrev pub Loaded : Type 0
@@ -23,31 +23,31 @@ abbrev pub at_place : ℕ → Result (Unit {0}) Refusal → Result (Unit {0}) Lo
 at_place i (Ok x) = Ok tt
 at_place i (Err e) = Err (fault Draft i e)
 
-abbrev pub make-call : Automaton → ℕ → Result Call Refusal → Loaded
-make-call a i (Ok c) = (at_place i (called a c).0, (called a c).1)
-make-call a i (Err e) = (Err (fault Record i e), a)
+abbrev pub make_call : Automaton → ℕ → Result Call Refusal → Loaded
+make_call a i (Ok c) = (at_place i (called a c).0, (called a c).1)
+make_call a i (Err e) = (Err (fault Record i e), a)
 
 -- the record at place i, taken as the call that it names
-abbrev pub take-record : Automaton → ℕ → List ℕ → Loaded
-take-record a i bs = make-call a i (decoded bs)
+abbrev pub take_record : Automaton → ℕ → List ℕ → Loaded
+take_record a i bs = make_call a i (decoded bs)
 
 abbrev pub onward : Loaded → Loaded → Loaded
 onward (Ok x, a) rest = rest
 onward (Err e, a) rest = (Err e, a)
 
 -- the records in order, from place i on, up to the first fault
-abbrev pub take-records : Automaton → ℕ → List (List ℕ) → Loaded
-take-records a i [] = (Ok tt, a)
-take-records a i (r ∷ rs) = onward (take-record a i r) (take-records (take-record a i r).1 (i + 1) rs)
+abbrev pub take_records : Automaton → ℕ → List (List ℕ) → Loaded
+take_records a i [] = (Ok tt, a)
+take_records a i (r ∷ rs) = onward (take_record a i r) (take_records (take_record a i r).1 (i + 1) rs)
 
 -- a file with the letters that are given
-abbrev pub load-file : Automaton → ℕ → List ℕ → Loaded
-load-file a n bs =
-    cond (letters-fit n)
-    (cond (length bs % 8 == 0) (take-records (empty n) 0 (first_chunks 8 (length bs / 8) bs)) (Err (fault File 0 Length), a))
+abbrev pub load_file : Automaton → ℕ → List ℕ → Loaded
+load_file a n bs =
+    cond (letters_fit n)
+    (cond (length bs % 8 == 0) (take_records (empty n) 0 (first_chunks 8 (length bs / 8) bs)) (Err (fault File 0 Length), a))
     (Err (fault File 0 Letters), a)
 
 -- a refusal, with the place of its record
-abbrev pub with-place : ℕ → Result (Unit {0}) Refusal → Result (Unit {0}) Placed
-with-place i (Ok x) = Ok tt
-with-place i (Err e) = Err (record { refusal = e; place = i })
+abbrev pub with_place : ℕ → Result (Unit {0}) Refusal → Result (Unit {0}) Placed
+with_place i (Ok x) = Ok tt
+with_place i (Err e) = Err (record { refusal = e; place = i })

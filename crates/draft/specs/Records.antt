@@ -5,7 +5,7 @@ use Rattle.refusal.specs.declared.Refusal.TheVariants.{RecordKind, RecordUnused}
 use Rattle.draft.specs.declared.records.Call.{Call}
 use Rattle.draft.specs.declared.records.Call.TheVariants.{State, Leaf, Either, Both, Rule, Regrade, Turn}
 use Rattle.draft.specs.Automaton.{Automaton}
-use Rattle.draft.specs.Calls.{Outcome, add-state, add-leaf, add-either, add-both, set-rule, set-priority, turn-over}
+use Rattle.draft.specs.Calls.{Outcome, add_state, add_leaf, add_either, add_both, set_rule, set_priority, turn_over}
 
 -- the bytes of a record: 0 names the call, 1 is a rule's letter, 2 and 3 are the first number and 4 and 5 the
 -- second, low byte first
@@ -18,20 +18,20 @@ first bs = byte bs 2 + 256 * byte bs 3
 abbrev pub second : List ℕ → ℕ
 second bs = byte bs 4 + 256 * byte bs 5
 
-abbrev pub zero-at : List ℕ → ℕ → Bool
-zero-at bs i = byte bs i == 0
+abbrev pub zero_at : List ℕ → ℕ → Bool
+zero_at bs i = byte bs i == 0
 
-abbrev pub no-letter : List ℕ → Bool
-no-letter bs = zero-at bs 1
+abbrev pub no_letter : List ℕ → Bool
+no_letter bs = zero_at bs 1
 
-abbrev pub no-first : List ℕ → Bool
-no-first bs = zero-at bs 2 && zero-at bs 3
+abbrev pub no_first : List ℕ → Bool
+no_first bs = zero_at bs 2 && zero_at bs 3
 
 abbrev pub no_second : List ℕ → Bool
-no_second bs = zero-at bs 4 && zero-at bs 5
+no_second bs = zero_at bs 4 && zero_at bs 5
 
-abbrev pub no-rest : List ℕ → Bool
-no-rest bs = zero-at bs 6 && zero-at bs 7
+abbrev pub no_rest : List ℕ → Bool
+no_rest bs = zero_at bs 6 && zero_at bs 7
 
 -- a call, if the bytes that it does not use are zero
 abbrev pub only_if : Bool → Call → Result Call Refusal
@@ -40,13 +40,13 @@ only_if unused-zero c = cond unused-zero (Ok c) (Err RecordUnused)
 -- the call that a record names
 abbrev pub decoded : List ℕ → Result Call Refusal
 decoded bs =
-    cond (byte bs 0 == 1) (only_if (no-letter bs && no_second bs && no-rest bs) (State (first bs)))
-    (cond (byte bs 0 == 2) (only_if (no-letter bs && no_second bs && no-rest bs) (Leaf (first bs)))
-    (cond (byte bs 0 == 3) (only_if (no-letter bs && no-rest bs) (Either (first bs) (second bs)))
-    (cond (byte bs 0 == 4) (only_if (no-letter bs && no-rest bs) (Both (first bs) (second bs)))
-    (cond (byte bs 0 == 5) (only_if (no-rest bs) (Rule (first bs) (byte bs 1) (second bs)))
-    (cond (byte bs 0 == 6) (only_if (no-letter bs && no-rest bs) (Regrade (first bs) (second bs)))
-    (cond (byte bs 0 == 7) (only_if (no-letter bs && no-first bs && no_second bs && no-rest bs) Turn)
+    cond (byte bs 0 == 1) (only_if (no_letter bs && no_second bs && no_rest bs) (State (first bs)))
+    (cond (byte bs 0 == 2) (only_if (no_letter bs && no_second bs && no_rest bs) (Leaf (first bs)))
+    (cond (byte bs 0 == 3) (only_if (no_letter bs && no_rest bs) (Either (first bs) (second bs)))
+    (cond (byte bs 0 == 4) (only_if (no_letter bs && no_rest bs) (Both (first bs) (second bs)))
+    (cond (byte bs 0 == 5) (only_if (no_rest bs) (Rule (first bs) (byte bs 1) (second bs)))
+    (cond (byte bs 0 == 6) (only_if (no_letter bs && no_rest bs) (Regrade (first bs) (second bs)))
+    (cond (byte bs 0 == 7) (only_if (no_letter bs && no_first bs && no_second bs && no_rest bs) Turn)
     (Err RecordKind)))))))
 
 -- an answer without the new number
@@ -54,15 +54,15 @@ abbrev pub unnumbered : {X : Type 0} → Result X Refusal → Result (Unit {0}) 
 unnumbered (Ok x) = Ok tt
 unnumbered (Err e) = Err e
 
-abbrev pub without-number : Outcome ℕ → Outcome (Unit {0})
-without-number o = (unnumbered o.0, o.1)
+abbrev pub without_number : Outcome ℕ → Outcome (Unit {0})
+without_number o = (unnumbered o.0, o.1)
 
 -- the call made on an automaton
 abbrev pub called : Automaton → Call → Outcome (Unit {0})
-called a (State p) = without-number (add-state a p)
-called a (Leaf q) = without-number (add-leaf a q)
-called a (Either l r) = without-number (add-either a l r)
-called a (Both l r) = without-number (add-both a l r)
-called a (Rule q letter x) = set-rule a q letter x
-called a (Regrade q p) = set-priority a q p
-called a Turn = turn-over a
+called a (State p) = without_number (add_state a p)
+called a (Leaf q) = without_number (add_leaf a q)
+called a (Either l r) = without_number (add_either a l r)
+called a (Both l r) = without_number (add_both a l r)
+called a (Rule q letter x) = set_rule a q letter x
+called a (Regrade q p) = set_priority a q p
+called a Turn = turn_over a

@@ -3,7 +3,7 @@ use Rattle.std.specs.Prelude.{◌≡◌, ℕ, ◌<◌, ◌≤◌, Bool, true, fa
 use Rattle.draft.specs.declared.parts.Node.{Node}
 use Rattle.draft.specs.declared.parts.Node.TheVariants.{Leaf, Either, Both}
 use Rattle.draft.specs.declared.parts.State.{State}
-use Rattle.draft.specs.Automaton.{Automaton, blank, state-count, node-count}
+use Rattle.draft.specs.Automaton.{Automaton, blank, state_count, node_count}
 
 -- every priority is at most 999
 abbrev pub Low : List State → Type 0
@@ -22,29 +22,29 @@ abbrev pub Named : ℕ → List State → Type 0
 Named n l = (q letter x : ℕ) → slice_index_or (get_or l q blank).rules letter None ≡ Some x → x < n
 
 -- every leaf names one of n states
-abbrev pub Leaves-known : ℕ → List Node → Type 0
-Leaves-known n l = (x q : ℕ) → x < length l → slice_index_or l x (Leaf 0) ≡ Leaf q → q < n
+abbrev pub LeavesKnown : ℕ → List Node → Type 0
+LeavesKnown n l = (x q : ℕ) → x < length l → slice_index_or l x (Leaf 0) ≡ Leaf q → q < n
 
-abbrev pub is-child : Node → ℕ → Bool
-is-child (Leaf q) y = false
-is-child (Either l r) y = y == l || y == r
-is-child (Both l r) y = y == l || y == r
+abbrev pub is_child : Node → ℕ → Bool
+is_child (Leaf q) y = false
+is_child (Either l r) y = y == l || y == r
+is_child (Both l r) y = y == l || y == r
 
 -- children stand before their parents
-abbrev pub Children-before : List Node → Type 0
-Children-before l = (x y : ℕ) → is-child (slice_index_or l x (Leaf 0)) y ≡ true → y < x
+abbrev pub ChildrenBefore : List Node → Type 0
+ChildrenBefore l = (x y : ℕ) → is_child (slice_index_or l x (Leaf 0)) y ≡ true → y < x
 
-pub record Well-formed (a : Automaton) : Type 0 where
-  pub some-letters : 1 ≤ a.letters
-  pub few-letters : a.letters ≤ 16
-  pub few-states : state-count a ≤ 32
-  pub few-nodes : node-count a ≤ 128
+pub record WellFormed (a : Automaton) : Type 0 where
+  pub some_letters : 1 ≤ a.letters
+  pub few_letters : a.letters ≤ 16
+  pub few_states : state_count a ≤ 32
+  pub few_nodes : node_count a ≤ 128
   pub low : Low a.states
   pub full : Full a.states
   pub lettered : Lettered a.letters a.states
-  pub named : Named (node-count a) a.states
-  pub leaves : Leaves-known (state-count a) a.nodes
-  pub children : Children-before a.nodes
+  pub named : Named (node_count a) a.states
+  pub leaves : LeavesKnown (state_count a) a.nodes
+  pub children : ChildrenBefore a.nodes
 
 -- a node of an automaton with n states, standing at place x
 abbrev pub Fits : ℕ → ℕ → Node → Type 0

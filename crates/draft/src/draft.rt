@@ -1,6 +1,6 @@
 // The draft, with what holds of it between calls.
 ghost use Rattle.std.specs.Prelude.{◌≤◌, length, vec_len, vec_capacity};
-ghost use Rattle.draft.specs.WellFormed.{Low, Full, Lettered, Named, Leaves-known, Children-before};
+ghost use Rattle.draft.specs.WellFormed.{Low, Full, Lettered, Named, LeavesKnown, ChildrenBefore};
 
 use crate::parts::{Node, State};
 
@@ -28,6 +28,6 @@ pub struct Draft {
     ghost full: { Full states.items },
     ghost lettered: { Lettered letters states.items },
     ghost named: { Named (length nodes.items) states.items },
-    ghost leaves: { Leaves-known (length states.items) nodes.items },
-    ghost children: { Children-before nodes.items },
+    ghost leaves: { LeavesKnown (length states.items) nodes.items },
+    ghost children: { ChildrenBefore nodes.items },
 }

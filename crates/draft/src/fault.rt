@@ -1,6 +1,6 @@
 // The fault of a load: what was refused, at which record, and by which layer.
 ghost use Rattle.std.specs.Prelude.{◌≡◌};
-ghost use Rattle.draft.specs.Layers.{layer-number};
+ghost use Rattle.draft.specs.Layers.{layer_number};
 
 use refusal::Refusal;
 
@@ -18,7 +18,7 @@ pub enum Layer {
 impl Layer {
     // The number under which the layer is reported.
     pub fn number(self) -> u8
-        ensures { result ≡ layer-number self }
+        ensures { result ≡ layer_number self }
     {
         self as u8
     }

@@ -1,6 +1,6 @@
 // Loads a draft from the records of a file.
 ghost use Rattle.std.specs.Prelude.{◌≡◌};
-ghost use Rattle.draft.specs.Load.{fault, load-file, take-record, with-place};
+ghost use Rattle.draft.specs.Load.{fault, load_file, take_record, with_place};
 ghost use Rattle.draft.specs.Meaning.{meaning};
 ghost use Rattle.draft.specs.declared.fault.Layer.TheVariants.{Draft as ByDraft, File as ByFile};
 
@@ -32,7 +32,7 @@ impl From<Placed> for LoadFault {
 // Begins the draft with the given letters, and takes the records in order, each as the call that it names. A fault
 // of the file leaves the draft as it was; a later fault leaves it with the records before the faulty one.
 pub fn load(draft: &mut Draft, letters: u32, bytes: &[u8]) -> Result<(), LoadFault>
-    ensures { (result, meaning draft.new) ≡ load-file (meaning draft.old) letters bytes.now }
+    ensures { (result, meaning draft.new) ≡ load_file (meaning draft.old) letters bytes.now }
 {
     if !letters_fit(letters) {
         return Err(of_file(Refusal::Letters));
@@ -61,7 +61,7 @@ fn of_file(refusal: Refusal) -> LoadFault
 
 // Takes the record at a place as the call that it names.
 fn take(draft: &mut Draft, place: usize, record: &[u8; 8]) -> Result<(), LoadFault>
-    ensures { (result, meaning draft.new) ≡ take-record (meaning draft.old) place «record».now }
+    ensures { (result, meaning draft.new) ≡ take_record (meaning draft.old) place «record».now }
 {
     let call = match decode(record) {
         Ok(call) => call,
@@ -79,7 +79,7 @@ fn take(draft: &mut Draft, place: usize, record: &[u8; 8]) -> Result<(), LoadFau
 
 // A draft's answer to the record at a place.
 fn at(answer: Result<(), Refusal>, place: usize) -> Result<(), Placed>
-    ensures { result ≡ with-place place answer }
+    ensures { result ≡ with_place place answer }
 {
     match answer {
         Ok(()) => Ok(()),

@@ -3,7 +3,7 @@ ghost use Rattle.std.specs.Prelude.{◌≡◌, ◌+◌, ◌*◌, cond, Ok, Err};
 ghost use Rattle.refusal.specs.declared.Refusal.TheVariants.{RecordUnused};
 ghost use Rattle.draft.specs.Meaning.{meaning};
 ghost use Rattle.draft.specs.Records.{decoded, called, unnumbered};
-ghost use Rattle.draft.specs.Written.{encoded, record-bytes};
+ghost use Rattle.draft.specs.Written.{encoded, record_bytes};
 
 use crate::draft::Draft;
 use refusal::Refusal;
@@ -85,7 +85,7 @@ pub(crate) fn encode(call: Call) -> [u8; 8]
 
 // The record with these parts.
 fn record_of(kind: u8, letter: u8, first: u16, second: u16) -> [u8; 8]
-    ensures { result ≡ record-bytes kind letter first second }
+    ensures { result ≡ record_bytes kind letter first second }
 {
     [
         kind,

@@ -4,16 +4,16 @@ use Rattle.std.proofs.lemmas.Bool.{cases_lt, cond-true, cond-false, and_from, an
 use Rattle.parity.specs.Game.{Game, favoured}
 use Rattle.parity.specs.Player.{same}
 use Rattle.parity.specs.Grading.{grade, distance}
-use Rattle.parity.specs.Move.{move-by}
+use Rattle.parity.specs.Move.{move_by}
 use Rattle.parity.specs.declared.player.Player.{Player}
 use Rattle.parity.proofs.Players.{which, true_same, false_same}
 use Rattle.parity.proofs.Moves.{move_same}
 use Rattle.arena.specs.Bounds.{Bounds}
 use Rattle.game.specs.Outcomes.{blank, outcome}
 use Rattle.game.specs.Filling.{ranked, Kept}
-use Rattle.game.specs.LastPass.{grade-in, distance-in, first-nearer, first-up, finished-by}
+use Rattle.game.specs.LastPass.{grade_in, distance_in, first_nearer, first_up, finished_by}
 use Rattle.game.specs.declared.outcome.Outcome.{Outcome}
-use Rattle.game.proofs.Rounds.{sound-of}
+use Rattle.game.proofs.Rounds.{sound_of}
 
 -- the last pass has come to v
 pub record Finishing (G : Game) (v : ℕ) (before l : List Outcome) : Type 0 where
@@ -22,38 +22,38 @@ pub record Finishing (G : Game) (v : ℕ) (before l : List Outcome) : Type 0 whe
   pub kept : Kept G.count before l
 
 module _ (G : Game) (b : Bounds G) (v : ℕ) (before l : List Outcome) (v< : v < G.count) (h : Finishing G v before l) where
-  grades : (u : ℕ) → u < G.count → grade-in l u ≡ grade G u
+  grades : (u : ℕ) → u < G.count → grade_in l u ≡ grade G u
   grades u u< = elim (cases_lt u v) [ inl x ↦ ap (λ (w : Outcome). w.grade) (h.new u x) | inr x ↦ ap (λ (w : Outcome). w.grade) (h.old u x u<) ]
 
-  distances : (u : ℕ) → u < G.count → distance-in l u ≡ distance G u
+  distances : (u : ℕ) → u < G.count → distance_in l u ≡ distance G u
   distances u u< = elim (cases_lt u v) [ inl x ↦ ap (λ (w : Outcome). w.distance) (h.new u x) | inr x ↦ ap (λ (w : Outcome). w.distance) (h.old u x u<) ]
 
-  pub finished-is : finished-by G l v ≡ outcome G v
-  finished-is =
-      let m = move_same G (sound-of G b) (grade-in l) (distance-in l) (grade G) (distance G) grades distances v v< in
+  pub finished_is : finished_by G l v ≡ outcome G v
+  finished_is =
+      let m = move_same G (sound_of G b) (grade_in l) (distance_in l) (grade G) (distance G) grades distances v v< in
       λ i. record { winner = favoured G (grades v v< i); grade = grades v v< i; distance = distances v v< i; choice = m i }
 
-  pub finish-more : v < length l → (o : Outcome) → o ≡ finished-by G l v → Finishing G (v + 1) before (set l v o)
-  finish-more lt o e = record {
-    new = below_more _ _ (λ k x. let ne : k ≢ v = omega arith in rw get_or-set_other (h.new k x)) (rw get_or-set_same (e ∙ finished-is));
+  pub finish_more : v < length l → (o : Outcome) → o ≡ finished_by G l v → Finishing G (v + 1) before (set l v o)
+  finish_more lt o e = record {
+    new = below_more _ _ (λ k x. let ne : k ≢ v = omega arith in rw get_or-set_other (h.new k x)) (rw get_or-set_same (e ∙ finished_is));
     old = λ k x k<. let ne : k ≢ v = omega arith in rw get_or-set_other (h.old k (omega arith) k<);
     kept = λ k x. let ne : k ≢ v = omega arith in rw get_or-set_other (h.kept k x);
   }
 
 -- which of the two rules gives the move, by the test r of the owner x and the favoured y
-module _ (G : Game) (l : List Outcome) (v : ℕ) (x y : Player) (r : Bool) (own : x ≡ G.owner v) (fav : y ≡ favoured G (grade-in l v)) (is : cond r (x ≡ y) (x ≡ y → ⊥)) where
-  test : same (G.owner v) (favoured G (grade-in l v)) ≡ r
+module _ (G : Game) (l : List Outcome) (v : ℕ) (x y : Player) (r : Bool) (own : x ≡ G.owner v) (fav : y ≡ favoured G (grade_in l v)) (is : cond r (x ≡ y) (x ≡ y → ⊥)) where
+  test : same (G.owner v) (favoured G (grade_in l v)) ≡ r
   test = sym (λ i. same (own i) (fav i)) ∙ told r is
     where
       told : (t : Bool) → cond t (x ≡ y) (x ≡ y → ⊥) → same x y ≡ t
       told true e = true_same x y e
       told false n = elim (which x y) [ inl e ↦ absurd (n e) | inr e ↦ false_same x y e ]
 
-  pub move-nearer : r ≡ true → 0 < distance-in l v → move-by G (grade-in l) (distance-in l) v ≡ first-nearer G l v
-  unfolding move-by
-  move-nearer e far = cond-true _ _ _ (and_from _ _ (test ∙ e) (lt-ltb _ _ far))
+  pub move_nearer : r ≡ true → 0 < distance_in l v → move_by G (grade_in l) (distance_in l) v ≡ first_nearer G l v
+  unfolding move_by
+  move_nearer e far = cond-true _ _ _ (and_from _ _ (test ∙ e) (lt-ltb _ _ far))
 
-  pub move_up : ((r ≡ true) × (distance-in l v ≤ 0)) ⊎ (r ≡ false) → move-by G (grade-in l) (distance-in l) v ≡ first-up G l v
-  unfolding move-by
+  pub move_up : ((r ≡ true) × (distance_in l v ≤ 0)) ⊎ (r ≡ false) → move_by G (grade_in l) (distance_in l) v ≡ first_up G l v
+  unfolding move_by
   move_up (inl h) = cond-false _ _ _ (and_right _ _ (le-ltb _ _ h.1))
   move_up (inr n) = cond-false _ _ _ (and_left _ _ (test ∙ n))

@@ -8,19 +8,19 @@ use Rattle.parity.specs.Player.{same}
 use Rattle.parity.specs.declared.player.Player.TheVariants.{Zero}
 use Rattle.parity.specs.Below.{some_below}
 use Rattle.parity.specs.Grading.{grade, distance}
-use Rattle.parity.proofs.Below.{some-decides, all-decides, some-gives, some-from, no-from}
-use Rattle.parity.proofs.Pull.{Pull, cond-decides, same-decides, differ-decides}
+use Rattle.parity.proofs.Below.{some_decides, all_decides, some_gives, some_from, no_from}
+use Rattle.parity.proofs.Pull.{Pull, cond_decides, same_decides, differ_decides}
 use Rattle.parity.specs.Certificate.{Certificate}
 use Rattle.parity.proofs.Graded.{graded}
-use Rattle.parity.proofs.Rounds.{base-test, round-test, each-distance}
-use Rattle.parity.proofs.Crowd.{below-count}
+use Rattle.parity.proofs.Rounds.{base_test, round_test, each_distance}
+use Rattle.parity.proofs.Crowd.{below_count}
 use Rattle.arena.specs.Bounds.{Bounds}
 use Rattle.game.specs.Outcomes.{blank}
-use Rattle.game.specs.Filling.{unset, ranked, reached, gets, partly, Kept, is-near, some_near, all-behind, joins-now}
+use Rattle.game.specs.Filling.{unset, ranked, reached, gets, partly, Kept, is_near, some_near, all_behind, joins_now}
 use Rattle.game.specs.declared.outcome.Outcome.{Outcome}
 
-pub sound-of : (G : Game) → Bounds G → Sound G
-sound-of G b = record { moves = λ v v<. omega (arith, b.moves v v<); stays = λ v i _ _. b.inside v i }
+pub sound_of : (G : Game) → Bounds G → Sound G
+sound_of G b = record { moves = λ v v<. omega (arith, b.moves v v<); stays = λ v i _ _. b.inside v i }
 
 module _ (G : Game) (b : Bounds G) where
   abbrev g : ℕ → ℕ
@@ -30,58 +30,58 @@ module _ (G : Game) (b : Bounds G) where
   δ = distance G
 
   sound : Sound G
-  sound = sound-of G b
+  sound = sound_of G b
 
   table : Certificate G g δ
   table = graded G sound
 
-  pub g-small : (v : ℕ) → v < G.count → g v ≤ 9999
-  g-small v v< = omega (arith, (table v v<).low, b.priorities v)
+  pub g_small : (v : ℕ) → v < G.count → g v ≤ 9999
+  g_small v v< = omega (arith, (table v v<).low, b.priorities v)
 
   abbrev pub Reached : ℕ → ℕ → ℕ → Type 0
   Reached p d v = (g v < p) ⊎ ((g v ≡ p) × (δ v < d))
 
-  reached-is : (p d v : ℕ) → Decides (reached G p d v) (Reached p d v)
+  reached_is : (p d v : ℕ) → Decides (reached G p d v) (Reached p d v)
   unfolding reached
-  reached-is p d v = Decides-or (ltb (g v) p) _ (Decides-ltb (g v) p) (Decides-and (eqb (g v) p) (ltb (δ v) d) (Decides-eqb (g v) p) (Decides-ltb (δ v) d))
+  reached_is p d v = Decides-or (ltb (g v) p) _ (Decides-ltb (g v) p) (Decides-and (eqb (g v) p) (ltb (δ v) d) (Decides-eqb (g v) p) (Decides-ltb (δ v) d))
 
-  gets-is : (p d v : ℕ) → Decides (gets G p d v) ((g v ≡ p) × (δ v ≡ d))
+  gets_is : (p d v : ℕ) → Decides (gets G p d v) ((g v ≡ p) × (δ v ≡ d))
   unfolding gets
-  gets-is p d v = Decides-and (eqb (g v) p) (eqb (δ v) d) (Decides-eqb (g v) p) (Decides-eqb (δ v) d)
+  gets_is p d v = Decides-and (eqb (g v) p) (eqb (δ v) d) (Decides-eqb (g v) p) (Decides-eqb (δ v) d)
 
   pub filled : (p d v : ℕ) → Reached p d v → partly G p d v ≡ ranked G v
   unfolding partly
-  filled p d v h = cond-true (reached G p d v) (ranked G v) unset ((reached-is p d v).1 h)
+  filled p d v h = cond-true (reached G p d v) (ranked G v) unset ((reached_is p d v).1 h)
 
   pub left : (p d v : ℕ) → (Reached p d v → ⊥) → partly G p d v ≡ unset
   unfolding partly
-  left p d v h = cond-false (reached G p d v) (ranked G v) unset (no-from _ (reached-is p d v) h)
+  left p d v h = cond-false (reached G p d v) (ranked G v) unset (no_from _ (reached_is p d v) h)
 
-  pub cases-reached : (p d v : ℕ) → Reached p d v ⊎ (Reached p d v → ⊥)
-  cases-reached p d v = elim (cases_Bool (reached G p d v)) [ inl e ↦ inl ((reached-is p d v).0 e) | inr e ↦ inr (not_from_Decides _ (reached-is p d v) e) ]
+  pub cases_reached : (p d v : ℕ) → Reached p d v ⊎ (Reached p d v → ⊥)
+  cases_reached p d v = elim (cases_Bool (reached G p d v)) [ inl e ↦ inl ((reached_is p d v).0 e) | inr e ↦ inr (not_from_Decides _ (reached_is p d v) e) ]
 
-  pub same-partly : (p d p' d' v : ℕ) → (Reached p d v → Reached p' d' v) → (Reached p' d' v → Reached p d v) → partly G p d v ≡ partly G p' d' v
-  same-partly p d p' d' v there back = elim (cases-reached p d v) [ inl r ↦ filled p d v r ∙ sym (filled p' d' v (there r)) | inr n ↦ left p d v n ∙ sym (left p' d' v (λ r. n (back r))) ]
+  pub same_partly : (p d p' d' v : ℕ) → (Reached p d v → Reached p' d' v) → (Reached p' d' v → Reached p d v) → partly G p d v ≡ partly G p' d' v
+  same_partly p d p' d' v there back = elim (cases_reached p d v) [ inl r ↦ filled p d v r ∙ sym (filled p' d' v (there r)) | inr n ↦ left p d v n ∙ sym (left p' d' v (λ r. n (back r))) ]
 
-  pub not-below : (p d v : ℕ) → (Reached p d v → ⊥) → p ≤ g v
-  not-below p d v n = elim (cases_lt (g v) p) [ inl x ↦ absurd (n (inl x)) | inr x ↦ x ]
+  pub not_below : (p d v : ℕ) → (Reached p d v → ⊥) → p ≤ g v
+  not_below p d v n = elim (cases_lt (g v) p) [ inl x ↦ absurd (n (inl x)) | inr x ↦ x ]
 
   -- the record of a vertex, in a round or halfway through it
   module _ (p d : ℕ) (small : p ≤ 9999) (u : ℕ) (u< : u < G.count) (o : Outcome) (e : ℕ) (up : d ≤ e) (is : o ≡ partly G p e u) where
-    pub near-is : Decides (is-near p d o) ((g u ≡ p) × (δ u < d))
-    near-is = Decides-like _ there back (Decides-and (eqb o.grade p) (ltb o.distance d) (Decides-eqb o.grade p) (Decides-ltb o.distance d))
+    pub near_is : Decides (is_near p d o) ((g u ≡ p) × (δ u < d))
+    near_is = Decides-like _ there back (Decides-and (eqb o.grade p) (ltb o.distance d) (Decides-eqb o.grade p) (Decides-ltb o.distance d))
       where
         there : (o.grade ≡ p) × (o.distance < d) → (g u ≡ p) × (δ u < d)
-        there (x, y) = elim (cases-reached p e u) [ inl r ↦ (let i = is ∙ filled p e u r in (omega (arith, ap (λ (w : Outcome). w.grade) i), omega (arith, ap (λ (w : Outcome). w.distance) i))) | inr n ↦ absurd (let i = is ∙ left p e u n in omega (arith, ap (λ (w : Outcome). w.grade) i)) ]
+        there (x, y) = elim (cases_reached p e u) [ inl r ↦ (let i = is ∙ filled p e u r in (omega (arith, ap (λ (w : Outcome). w.grade) i), omega (arith, ap (λ (w : Outcome). w.distance) i))) | inr n ↦ absurd (let i = is ∙ left p e u n in omega (arith, ap (λ (w : Outcome). w.grade) i)) ]
 
         back : (g u ≡ p) × (δ u < d) → (o.grade ≡ p) × (o.distance < d)
         back (x, y) = (let i = is ∙ filled p e u (inr (x, omega arith)) in (omega (arith, ap (λ (w : Outcome). w.grade) i), omega (arith, ap (λ (w : Outcome). w.distance) i)))
 
-    pub gone-is : Decides (ltb o.grade p) (g u < p)
-    gone-is = Decides-like _ there back (Decides-ltb o.grade p)
+    pub gone_is : Decides (ltb o.grade p) (g u < p)
+    gone_is = Decides-like _ there back (Decides-ltb o.grade p)
       where
         there : o.grade < p → g u < p
-        there x = elim (cases-reached p e u) [ inl r ↦ omega (arith, ap (λ (w : Outcome). w.grade) (is ∙ filled p e u r)) | inr n ↦ absurd (omega (arith, ap (λ (w : Outcome). w.grade) (is ∙ left p e u n))) ]
+        there x = elim (cases_reached p e u) [ inl r ↦ omega (arith, ap (λ (w : Outcome). w.grade) (is ∙ filled p e u r)) | inr n ↦ absurd (omega (arith, ap (λ (w : Outcome). w.grade) (is ∙ left p e u n))) ]
 
         back : g u < p → o.grade < p
         back x = omega (arith, ap (λ (w : Outcome). w.grade) (is ∙ filled p e u (inl x)))
@@ -93,53 +93,53 @@ module _ (G : Game) (b : Bounds G) where
     abbrev to : ℕ → ℕ
     to i = G.successor v i
 
-    pull-is : (d : ℕ) → Between p (suc d) l → Decides (cond (same (G.owner v) (favoured G p)) (some_near G l p (suc d) v) (all-behind G l p (suc d) v)) (Pull G p (λ u. p ≤ g u) (λ u. (g u ≡ p) × (δ u ≤ d)) v)
-    pull-is d at =
-        cond-decides _ _ _
-        (same-decides (G.owner v) (favoured G p))
-        (differ-decides (G.owner v) (favoured G p))
-        (some-decides (G.degree v) _ _ (λ i i<. hit i))
-        (all-decides (G.degree v) _ _ (λ i i<. Decides-or _ _ (out i) (hit i)))
+    pull_is : (d : ℕ) → Between p (suc d) l → Decides (cond (same (G.owner v) (favoured G p)) (some_near G l p (suc d) v) (all_behind G l p (suc d) v)) (Pull G p (λ u. p ≤ g u) (λ u. (g u ≡ p) × (δ u ≤ d)) v)
+    pull_is d at =
+        cond_decides _ _ _
+        (same_decides (G.owner v) (favoured G p))
+        (differ_decides (G.owner v) (favoured G p))
+        (some_decides (G.degree v) _ _ (λ i i<. hit i))
+        (all_decides (G.degree v) _ _ (λ i i<. Decides-or _ _ (out i) (hit i)))
       where
-        hit : (i : ℕ) → Decides (is-near p (suc d) (get_or l (to i) blank)) ((g (to i) ≡ p) × (δ (to i) ≤ d))
-        hit i = (let a = at (to i) (b.inside v i) in Decides-like _ (λ n. (n.0, omega (arith, n.1))) (λ n. (n.0, omega (arith, n.1))) (near-is p (suc d) small (to i) (b.inside v i) _ a.0 a.1 a.2))
+        hit : (i : ℕ) → Decides (is_near p (suc d) (get_or l (to i) blank)) ((g (to i) ≡ p) × (δ (to i) ≤ d))
+        hit i = (let a = at (to i) (b.inside v i) in Decides-like _ (λ n. (n.0, omega (arith, n.1))) (λ n. (n.0, omega (arith, n.1))) (near_is p (suc d) small (to i) (b.inside v i) _ a.0 a.1 a.2))
 
         out : (i : ℕ) → Decides (ltb (get_or l (to i) blank).grade p) (p ≤ g (to i) → ⊥)
-        out i = (let a = at (to i) (b.inside v i) in Decides-like _ (λ x h. omega arith) (λ n. omega arith) (gone-is p (suc d) small (to i) (b.inside v i) _ a.0 a.1 a.2))
+        out i = (let a = at (to i) (b.inside v i) in Decides-like _ (λ x h. omega arith) (λ n. omega arith) (gone_is p (suc d) small (to i) (b.inside v i) _ a.0 a.1 a.2))
 
-    test-is : (d : ℕ) → Between p d l → (Reached p d v → ⊥) →
-        Decides (cond (eqb d 0) (eqb (G.priority v) p) (cond (same (G.owner v) (favoured G p)) (some_near G l p d v) (all-behind G l p d v))) ((g v ≡ p) × (δ v ≡ d))
-    test-is zero at n =
-        let t = base-test G sound g δ table p v v< (not-below p 0 v n) in
+    test_is : (d : ℕ) → Between p d l → (Reached p d v → ⊥) →
+        Decides (cond (eqb d 0) (eqb (G.priority v) p) (cond (same (G.owner v) (favoured G p)) (some_near G l p d v) (all_behind G l p d v))) ((g v ≡ p) × (δ v ≡ d))
+    test_is zero at n =
+        let t = base_test G sound g δ table p v v< (not_below p 0 v n) in
         Decides-like _ t.0 t.1 (Decides-eqb (G.priority v) p)
-    test-is (suc d) at n =
-        let t = round-test G sound g δ table p d v v< (not-below p (suc d) v n) (λ h. n (inr (h.0, omega (arith, h.1)))) in
-        Decides-at _ _ (cond-false (eqb (suc d) 0) _ _ (eqb-suc-zero d)) (Decides-like _ t.0 t.1 (pull-is d at))
+    test_is (suc d) at n =
+        let t = round_test G sound g δ table p d v v< (not_below p (suc d) v n) (λ h. n (inr (h.0, omega (arith, h.1)))) in
+        Decides-at _ _ (cond-false (eqb (suc d) 0) _ _ (eqb-suc-zero d)) (Decides-like _ t.0 t.1 (pull_is d at))
 
     -- the records tell whether v gets distance d at grade p
-    pub joins-is : (d : ℕ) → Between p d l → get_or l v blank ≡ partly G p d v → joins-now G l p d v ≡ gets G p d v
-    joins-is d at here = elim (cases-reached p d v) [ inl r ↦ old r | inr n ↦ new n ]
+    pub joins_is : (d : ℕ) → Between p d l → get_or l v blank ≡ partly G p d v → joins_now G l p d v ≡ gets G p d v
+    joins_is d at here = elim (cases_reached p d v) [ inl r ↦ old r | inr n ↦ new n ]
       where
-        old : Reached p d v → joins-now G l p d v ≡ gets G p d v
+        old : Reached p d v → joins_now G l p d v ≡ gets G p d v
         old r =
             let s = ap (λ (w : Outcome). w.grade) (here ∙ filled p d v r) in
-            and_left (eqb (get_or l v blank).grade 65535) _ (ne_eqb _ _ (λ x. omega (arith, g-small v v<)))
-            ∙ sym (no-from _ (gets-is p d v) (λ h. elim r [ inl x ↦ omega (arith, h.0) | inr x ↦ omega (arith, h.1, x.1) ]))
+            and_left (eqb (get_or l v blank).grade 65535) _ (ne_eqb _ _ (λ x. omega (arith, g_small v v<)))
+            ∙ sym (no_from _ (gets_is p d v) (λ h. elim r [ inl x ↦ omega (arith, h.0) | inr x ↦ omega (arith, h.1, x.1) ]))
 
-        new : (Reached p d v → ⊥) → joins-now G l p d v ≡ gets G p d v
+        new : (Reached p d v → ⊥) → joins_now G l p d v ≡ gets G p d v
         new n =
             let s : eqb (get_or l v blank).grade 65535 ≡ true = eq-eqb _ _ (ap (λ (w : Outcome). w.grade) (here ∙ left p d v n)) in
-            same_from_decides _ _ (Decides-like _ (λ h. h.1) (λ h. (s, h)) (Decides-and (eqb (get_or l v blank).grade 65535) _ ((λ x. x), (λ x. x)) (test-is d at n))) (gets-is p d v)
+            same_from_decides _ _ (Decides-like _ (λ h. h.1) (λ h. (s, h)) (Decides-and (eqb (get_or l v blank).grade 65535) _ ((λ x. x), (λ x. x)) (test_is d at n))) (gets_is p d v)
 
   -- one distance more
-  pub next-new : (p d v : ℕ) → gets G p d v ≡ true → partly G p (d + 1) v ≡ record { winner = Zero; grade = p; distance = d; choice = 0 }
-  next-new p d v e =
-      let h = (gets-is p d v).0 e in
+  pub next_new : (p d v : ℕ) → gets G p d v ≡ true → partly G p (d + 1) v ≡ record { winner = Zero; grade = p; distance = d; choice = 0 }
+  next_new p d v e =
+      let h = (gets_is p d v).0 e in
       filled p (d + 1) v (inr (h.0, omega (arith, h.1)))
       ∙ (λ i. record { winner = Zero; grade = h.0 i; distance = h.1 i; choice = 0 })
 
-  pub next-old : (p d v : ℕ) → gets G p d v ≡ false → partly G p (d + 1) v ≡ partly G p d v
-  next-old p d v e = same-partly p (d + 1) p d v less more
+  pub next_old : (p d v : ℕ) → gets G p d v ≡ false → partly G p (d + 1) v ≡ partly G p d v
+  next_old p d v e = same_partly p (d + 1) p d v less more
     where
       more : Reached p d v → Reached p (d + 1) v
       more (inl x) = inl x
@@ -147,7 +147,7 @@ module _ (G : Game) (b : Bounds G) where
 
       less : Reached p (d + 1) v → Reached p d v
       less (inl x) = inl x
-      less (inr x) = elim (cases_lt (δ v) d) [ inl y ↦ inr (x.0, y) | inr y ↦ absurd (not_from_Decides _ (gets-is p d v) e (x.0, omega (arith, x.1))) ]
+      less (inr x) = elim (cases_lt (δ v) d) [ inl y ↦ inr (x.0, y) | inr y ↦ absurd (not_from_Decides _ (gets_is p d v) e (x.0, omega (arith, x.1))) ]
 
 -- a round has come to v
 pub record Halfway (G : Game) (p d v : ℕ) (before l : List Outcome) : Type 0 where
@@ -159,19 +159,19 @@ module _ (G : Game) (b : Bounds G) (p d v : ℕ) (before l : List Outcome) (v< :
   between : Between G b p d l
   between u u< = elim (cases_lt u v) [ inl x ↦ (d + 1, omega arith, h.new u x) | inr x ↦ (d, omega arith, h.old u x u<) ]
 
-  pub tells : p ≤ 9999 → joins-now G l p d v ≡ gets G p d v
-  tells small = joins-is G b l p small v v< d between (h.old v (omega arith) v<)
+  pub tells : p ≤ 9999 → joins_now G l p d v ≡ gets G p d v
+  tells small = joins_is G b l p small v v< d between (h.old v (omega arith) v<)
 
   pub pass : gets G p d v ≡ false → Halfway G p d (v + 1) before l
   pass e = record {
-    new = below_more _ _ h.new (h.old v (omega arith) v< ∙ sym (next-old G b p d v e));
+    new = below_more _ _ h.new (h.old v (omega arith) v< ∙ sym (next_old G b p d v e));
     old = λ k x k<. h.old k (omega arith) k<;
     kept = h.kept;
   }
 
   pub store : v < length l → gets G p d v ≡ true → Halfway G p d (v + 1) before (set l v (record { winner = Zero; grade = p; distance = d; choice = 0 }))
   store lt e = record {
-    new = below_more _ _ (λ k x. let ne : k ≢ v = omega arith in rw get_or-set_other (h.new k x)) (rw get_or-set_same (sym (next-new G b p d v e)));
+    new = below_more _ _ (λ k x. let ne : k ≢ v = omega arith in rw get_or-set_other (h.new k x)) (rw get_or-set_same (sym (next_new G b p d v e)));
     old = λ k x k<. let ne : k ≢ v = omega arith in rw get_or-set_other (h.old k (omega arith) k<);
     kept = λ k x. let ne : k ≢ v = omega arith in rw get_or-set_other (h.kept k x);
   }
@@ -180,12 +180,12 @@ module _ (G : Game) (b : Bounds G) (p d : ℕ) where
   -- a round that finds one has not passed the count
   pub found_below : some_below G.count (gets G p d) ≡ true → d < G.count
   found_below e =
-      let r = some-gives G.count (gets G p d) e in
-      omega (arith, ((gets-is G b p d r.0).0 r.2).1, below-count G (sound G b) (grade G) (distance G) (table G b) r.0 r.1)
+      let r = some_gives G.count (gets G p d) e in
+      omega (arith, ((gets_is G b p d r.0).0 r.2).1, below_count G (sound G b) (grade G) (distance G) (table G b) r.0 r.1)
 
   -- a round that finds none ends the stage
-  pub stage-ends : some_below G.count (gets G p d) ≡ false → (v : ℕ) → v < G.count → partly G p (d + 1) v ≡ partly G (p + 1) 0 v
-  stage-ends e v v< = same-partly G b p (d + 1) (p + 1) 0 v there back
+  pub stage_ends : some_below G.count (gets G p d) ≡ false → (v : ℕ) → v < G.count → partly G p (d + 1) v ≡ partly G (p + 1) 0 v
+  stage_ends e v v< = same_partly G b p (d + 1) (p + 1) 0 v there back
     where
       there : Reached G b p (d + 1) v → Reached G b (p + 1) 0 v
       there (inl x) = inl (omega arith)
@@ -197,5 +197,5 @@ module _ (G : Game) (b : Bounds G) (p d : ℕ) where
         where
           lost : grade G v ≡ p → d ≤ distance G v → ⊥
           lost s z =
-              let r = each-distance G (sound G b) (grade G) (distance G) (table G b) (suc (distance G v)) v d v< (omega arith) z in
-              both_ways _ e (some-from G.count (gets G p d) r.0 r.1 ((gets-is G b p d r.0).1 (r.2 ∙ s, r.3)))
+              let r = each_distance G (sound G b) (grade G) (distance G) (table G b) (suc (distance G v)) v d v< (omega arith) z in
+              both_ways _ e (some_from G.count (gets G p d) r.0 r.1 ((gets_is G b p d r.0).1 (r.2 ∙ s, r.3)))

@@ -10,42 +10,42 @@ use Rattle.game.specs.Filling.{Kept}
 use Rattle.game.specs.declared.outcome.Outcome.{Outcome}
 
 module _ (G : Game) where
-  length-outcomes : (n : ℕ) → length (outcomes G n) ≡ n
+  length_outcomes : (n : ℕ) → length (outcomes G n) ≡ n
   unfolding outcomes
-  length-outcomes zero = refl
-  length-outcomes (suc n) = length_push (outcomes G n) (outcome G n) ∙ omega (arith, length-outcomes n)
+  length_outcomes zero = refl
+  length_outcomes (suc n) = length_push (outcomes G n) (outcome G n) ∙ omega (arith, length_outcomes n)
 
-  at-outcomes : (n v : ℕ) → v < n → get_or (outcomes G n) v blank ≡ outcome G v
+  at_outcomes : (n v : ℕ) → v < n → get_or (outcomes G n) v blank ≡ outcome G v
   unfolding outcomes
-  at-outcomes zero v l = absurd (omega arith)
-  at-outcomes (suc n) v l =
+  at_outcomes zero v l = absurd (omega arith)
+  at_outcomes (suc n) v l =
       let le : v ≤ n = omega arith in
-      let here = length-outcomes n in
+      let here = length_outcomes n in
       elim (eq-or-lt_of_le le) [
         | inl e ↦ get_or_push (outcomes G n) (outcome G n) blank v (here ∙ sym e) ∙ ap (outcome G) (sym e)
-        | inr less ↦ get_or_append_left (outcomes G n) (outcome G n ∷ []) blank v (omega arith) ∙ at-outcomes n v less
+        | inr less ↦ get_or_append_left (outcomes G n) (outcome G n ∷ []) blank v (omega arith) ∙ at_outcomes n v less
       ]
 
   written : (before after : List Outcome) → length after ≡ length before → G.count ≤ length before → ((v : ℕ) → v < G.count → get_or after v blank ≡ outcome G v) → Kept G.count before after → after ≡ outcomes G G.count ++ drop G.count before
   written before after same room new kept = ext_get_or blank after _ long each
     where
       long : length after ≡ length (outcomes G G.count ++ drop G.count before)
-      long = simp (length-append, length-drop) (omega (arith, length-outcomes G.count))
+      long = simp (length-append, length-drop) (omega (arith, length_outcomes G.count))
 
       each : (v : ℕ) → v < length after → get_or after v blank ≡ get_or (outcomes G G.count ++ drop G.count before) v blank
       each v l =
-          let here = length-outcomes G.count in
+          let here = length_outcomes G.count in
           elim (cases_lt v G.count) [
-            | inl x ↦ new v x ∙ sym (get_or_append_left (outcomes G G.count) _ blank v (omega arith) ∙ at-outcomes G.count v x)
+            | inl x ↦ new v x ∙ sym (get_or_append_left (outcomes G G.count) _ blank v (omega arith) ∙ at_outcomes G.count v x)
             | inr x ↦ kept v x ∙ sym (get_or-append_right (outcomes G G.count) (drop G.count before) G.count v blank here x ∙ get_or-drop G.count before (v - G.count) blank ∙ ap (λ k. get_or before k blank) (omega arith))
           ]
 
   -- the two ways of solve
-  pub refused-is : (records : List Outcome) → length records < G.count → (Err Room, records) ≡ solved G records
-  refused-is records few = sym (cond-false (leb G.count (length records)) _ _ (lt-leb G.count (length records) few))
+  pub refused_is : (records : List Outcome) → length records < G.count → (Err Room, records) ≡ solved G records
+  refused_is records few = sym (cond-false (leb G.count (length records)) _ _ (lt-leb G.count (length records) few))
 
-  pub solved-is : (before after : List Outcome) → length after ≡ length before → G.count ≤ length before → ((v : ℕ) → v < G.count → get_or after v blank ≡ outcome G v) → Kept G.count before after → (Ok tt, after) ≡ solved G before
-  solved-is before after same room new kept =
+  pub solved_is : (before after : List Outcome) → length after ≡ length before → G.count ≤ length before → ((v : ℕ) → v < G.count → get_or after v blank ≡ outcome G v) → Kept G.count before after → (Ok tt, after) ≡ solved G before
+  solved_is before after same room new kept =
       ap (λ (l : List Outcome). (Ok tt, l)) (written before after same room new kept)
       ∙ sym (cond-true (leb G.count (length before)) _ _ (le-leb G.count (length before) room))
 
@@ -54,14 +54,14 @@ module _ (G : Game) where
     pub room : G.count ≤ length before
     pub each : (v : ℕ) → v < G.count → get_or after v blank ≡ outcome G v
 
-  by-room : (b : Bool) (before after new : List Outcome) → ◌≡◌ {A = Result (Unit {0}) Refusal × List Outcome} (Ok tt, after) (cond b (Ok tt, new) (Err Room, before)) → (b ≡ true) × (after ≡ new)
-  by-room true before after new e = (refl, ap (λ r. r.1) e)
-  by-room false before after new e = absurd (let f : ◌≡◌ {A = Result (Unit {0}) Refusal} (Ok tt) (Err Room) = ap (λ r. r.0) e in let z : ◌≡◌ {A = ℕ} 0 1 = cc in omega arith)
+  by_room : (b : Bool) (before after new : List Outcome) → ◌≡◌ {A = Result (Unit {0}) Refusal × List Outcome} (Ok tt, after) (cond b (Ok tt, new) (Err Room, before)) → (b ≡ true) × (after ≡ new)
+  by_room true before after new e = (refl, ap (λ r. r.1) e)
+  by_room false before after new e = absurd (let f : ◌≡◌ {A = Result (Unit {0}) Refusal} (Ok tt) (Err Room) = ap (λ r. r.0) e in let z : ◌≡◌ {A = ℕ} 0 1 = cc in omega arith)
 
-  pub solved-gives : (before after : List Outcome) → (Ok tt, after) ≡ solved G before → Solved before after
-  solved-gives before after e =
-      let h = by-room (leb G.count (length before)) before after _ e in
+  pub solved_gives : (before after : List Outcome) → (Ok tt, after) ≡ solved G before → Solved before after
+  solved_gives before after e =
+      let h = by_room (leb G.count (length before)) before after _ e in
       record {
         room = leb-true _ _ h.0;
-        each = λ v v<. (let here = length-outcomes G.count in ap (λ l. get_or l v blank) h.1 ∙ get_or_append_left (outcomes G G.count) _ blank v (omega arith) ∙ at-outcomes G.count v v<);
+        each = λ v v<. (let here = length_outcomes G.count in ap (λ l. get_or l v blank) h.1 ∙ get_or_append_left (outcomes G G.count) _ blank v (omega arith) ∙ at_outcomes G.count v v<);
       }

@@ -2,7 +2,7 @@
 use Rattle.std.specs.Prelude.{◌≡◌, ℕ, ◌<◌, ◌≤◌, Bool, cond, ◌&&◌, ◌||◌, List, get_or, Some, None, Option, ◌==◌, nat_lt, slice_index_or}
 use Rattle.parity.specs.Game.{Game, favoured}
 use Rattle.parity.specs.Player.{same}
-use Rattle.parity.specs.Below.{some_below, all-below}
+use Rattle.parity.specs.Below.{some_below, all_below}
 use Rattle.parity.specs.Grading.{level, grade, distance}
 use Rattle.parity.specs.declared.player.Player.TheVariants.{Zero}
 use Rattle.game.specs.Outcomes.{blank}
@@ -37,40 +37,40 @@ abbrev pub Kept : ℕ → List Outcome → List Outcome → Type 0
 Kept n l m = (v : ℕ) → n ≤ v → slice_index_or m v blank ≡ slice_index_or l v blank
 
 -- a record of grade p and a distance below d; some successor's
-abbrev pub is-near : ℕ → ℕ → Outcome → Bool
-is-near p d o = o.grade == p && nat_lt o.distance d
+abbrev pub is_near : ℕ → ℕ → Outcome → Bool
+is_near p d o = o.grade == p && nat_lt o.distance d
 
 abbrev pub some_near : Game → List Outcome → ℕ → ℕ → ℕ → Bool
-some_near G l p d v = some_below (G.degree v) (λ i. is-near p d (slice_index_or l (G.successor v i) blank))
+some_near G l p d v = some_below (G.degree v) (λ i. is_near p d (slice_index_or l (G.successor v i) blank))
 
 -- a record of a grade below p, or of grade p and a distance below d; each successor's
-abbrev pub is-behind : ℕ → ℕ → Outcome → Bool
-is-behind p d o = nat_lt o.grade p || is-near p d o
+abbrev pub is_behind : ℕ → ℕ → Outcome → Bool
+is_behind p d o = nat_lt o.grade p || is_near p d o
 
-abbrev pub all-behind : Game → List Outcome → ℕ → ℕ → ℕ → Bool
-all-behind G l p d v = all-below (G.degree v) (λ i. is-behind p d (slice_index_or l (G.successor v i) blank))
+abbrev pub all_behind : Game → List Outcome → ℕ → ℕ → ℕ → Bool
+all_behind G l p d v = all_below (G.degree v) (λ i. is_behind p d (slice_index_or l (G.successor v i) blank))
 
 -- by the records, v has no grade yet and gets distance d at grade p
-abbrev pub joins-now : Game → List Outcome → ℕ → ℕ → ℕ → Bool
-joins-now G l p d v =
+abbrev pub joins_now : Game → List Outcome → ℕ → ℕ → ℕ → Bool
+joins_now G l p d v =
     ((get_or l v blank).grade == 65535)
     && cond (d == 0) (level G v == p)
-    (cond (same (G.owner v) (favoured G p)) (some_near G l p d v) (all-behind G l p d v))
+    (cond (same (G.owner v) (favoured G p)) (some_near G l p d v) (all_behind G l p d v))
 
 -- the vertices that have no grade yet
 abbrev pub Open : Game → List Outcome → ℕ → Type 0
 Open G l v = (v < G.count) × ((get_or l v blank).grade ≡ 65535)
 
 -- the level of v while it is open, else a number past all levels
-abbrev pub open-level : Game → List Outcome → ℕ → ℕ
-open-level G l v = cond ((get_or l v blank).grade == 65535) (level G v) 65535
+abbrev pub open_level : Game → List Outcome → ℕ → ℕ
+open_level G l v = cond ((get_or l v blank).grade == 65535) (level G v) 65535
 
 -- the least level of an open vertex, if there is one
-abbrev pub Least-open : Game → List Outcome → Option ℕ → Type 0
-Least-open G l None = (v : ℕ) → Open G l v → ⊥
-Least-open G l (Some p) = ((v : ℕ) → Open G l v → p ≤ level G v) × ((v : ℕ) × Open G l v × (level G v ≡ p))
+abbrev pub LeastOpen : Game → List Outcome → Option ℕ → Type 0
+LeastOpen G l None = (v : ℕ) → Open G l v → ⊥
+LeastOpen G l (Some p) = ((v : ℕ) → Open G l v → p ≤ level G v) × ((v : ℕ) × Open G l v × (level G v ≡ p))
 
 -- the next grade, or a number past all grades
-abbrev pub or-end : Option ℕ → ℕ
-or-end None = 65535
-or-end (Some p) = p
+abbrev pub or_end : Option ℕ → ℕ
+or_end None = 65535
+or_end (Some p) = p

@@ -1,9 +1,9 @@
 // The last pass: winners and moves, from grades and distances.
 ghost use Rattle.std.specs.Prelude.{◌≡◌, ℕ, ◌<◌, ◌≤◌, length, slice_index_or};
-ghost use Rattle.parity.specs.Move.{move-by};
+ghost use Rattle.parity.specs.Move.{move_by};
 ghost use Rattle.game.specs.Outcomes.{blank, outcome};
 ghost use Rattle.game.specs.Filling.{ranked, Kept};
-ghost use Rattle.game.specs.LastPass.{grade-in, distance-in, first-nearer, first-up, finished-by};
+ghost use Rattle.game.specs.LastPass.{grade_in, distance_in, first_nearer, first_up, finished_by};
 
 use crate::outcome::Outcome;
 use crate::ranks::{ahead, favours, near};
@@ -12,7 +12,7 @@ use arena::Arena;
 // The least position at v that leads to the same grade and a smaller distance, or the degree.
 fn first_nearer<X: Arena>(arena: &X, out: &[Outcome], v: usize) -> usize
     requires { ((meaning arena.now).count ≤ length out.now) × (v < (meaning arena.now).count) }
-    ensures { result ≡ first-nearer (meaning arena.now) out.now v }
+    ensures { result ≡ first_nearer (meaning arena.now) out.now v }
 {
     let here = out[v];
     let degree = arena.degree(v);
@@ -27,7 +27,7 @@ fn first_nearer<X: Arena>(arena: &X, out: &[Outcome], v: usize) -> usize
 // The least position at v that leads to a grade at least as large, or the degree.
 fn first_up<X: Arena>(arena: &X, out: &[Outcome], v: usize) -> usize
     requires { ((meaning arena.now).count ≤ length out.now) × (v < (meaning arena.now).count) }
-    ensures { result ≡ first-up (meaning arena.now) out.now v }
+    ensures { result ≡ first_up (meaning arena.now) out.now v }
 {
     let here = out[v];
     let degree = arena.degree(v);
@@ -42,7 +42,7 @@ fn first_up<X: Arena>(arena: &X, out: &[Outcome], v: usize) -> usize
 // The move at v.
 fn choice<X: Arena>(arena: &X, out: &[Outcome], v: usize) -> usize
     requires { ((meaning arena.now).count ≤ length out.now) × (v < (meaning arena.now).count) }
-    ensures { result ≡ move-by (meaning arena.now) (grade-in out.now) (distance-in out.now) v }
+    ensures { result ≡ move_by (meaning arena.now) (grade_in out.now) (distance_in out.now) v }
 {
     let here = out[v];
     if arena.owner(v) == favours(arena, here.grade) && 0 < here.distance {
@@ -55,7 +55,7 @@ fn choice<X: Arena>(arena: &X, out: &[Outcome], v: usize) -> usize
 // The same in a byte: there are at most 16 positions.
 fn position<X: Arena>(arena: &X, out: &[Outcome], v: usize) -> u8
     requires { ((meaning arena.now).count ≤ length out.now) × (v < (meaning arena.now).count) }
-    ensures { result ≡ move-by (meaning arena.now) (grade-in out.now) (distance-in out.now) v }
+    ensures { result ≡ move_by (meaning arena.now) (grade_in out.now) (distance_in out.now) v }
 {
     choice(arena, out, v) as u8
 }
@@ -63,7 +63,7 @@ fn position<X: Arena>(arena: &X, out: &[Outcome], v: usize) -> u8
 // The record of v with its winner and its move.
 fn finished<X: Arena>(arena: &X, out: &[Outcome], v: usize) -> Outcome
     requires { ((meaning arena.now).count ≤ length out.now) × (v < (meaning arena.now).count) }
-    ensures { result ≡ finished-by (meaning arena.now) out.now v }
+    ensures { result ≡ finished_by (meaning arena.now) out.now v }
 {
     let here = out[v];
     Outcome {

@@ -4,7 +4,7 @@ ghost use Rattle.parity.specs.Game.{favoured};
 ghost use Rattle.parity.specs.Below.{some_below};
 ghost use Rattle.parity.specs.Grading.{grade, distance};
 ghost use Rattle.game.specs.Outcomes.{blank};
-ghost use Rattle.game.specs.Filling.{unset, ranked, is-near, is-behind, some_near, all-behind, joins-now, Filled, gets, Kept, open-level, Least-open};
+ghost use Rattle.game.specs.Filling.{unset, ranked, is_near, is_behind, some_near, all_behind, joins_now, Filled, gets, Kept, open_level, LeastOpen};
 
 use crate::outcome::Outcome;
 use arena::Arena;
@@ -23,14 +23,14 @@ pub(crate) fn favours<X: Arena>(arena: &X, p: u16) -> Player
 
 // Whether the record has grade p and a distance below d.
 pub(crate) fn near(o: Outcome, p: u16, d: u16) -> bool
-    ensures { result ≡ is-near p d o }
+    ensures { result ≡ is_near p d o }
 {
     o.grade == p && o.distance < d
 }
 
 // Whether the record has a grade below p, or grade p and a distance below d.
 fn behind(o: Outcome, p: u16, d: u16) -> bool
-    ensures { result ≡ is-behind p d o }
+    ensures { result ≡ is_behind p d o }
 {
     o.grade < p || near(o, p, d)
 }
@@ -60,7 +60,7 @@ fn some_near<X: Arena>(arena: &X, out: &[Outcome], p: u16, d: u16, v: usize) -> 
 // Whether each successor of v has a grade below p, or grade p and a distance below d.
 fn all_behind<X: Arena>(arena: &X, out: &[Outcome], p: u16, d: u16, v: usize) -> bool
     requires { (meaning arena.now).count ≤ length out.now }
-    ensures { result ≡ all-behind (meaning arena.now) out.now p d v }
+    ensures { result ≡ all_behind (meaning arena.now) out.now p d v }
 {
     for i in 0..arena.degree(v) {
         if !behind(ahead(arena, out, v, i), p, d) {
@@ -73,7 +73,7 @@ fn all_behind<X: Arena>(arena: &X, out: &[Outcome], p: u16, d: u16, v: usize) ->
 // Whether v has no grade yet, and now gets grade p and distance d.
 fn joins<X: Arena>(arena: &X, out: &[Outcome], p: u16, d: u16, v: usize) -> bool
     requires { ((meaning arena.now).count ≤ length out.now) × (v < (meaning arena.now).count) }
-    ensures { result ≡ joins-now (meaning arena.now) out.now p d v }
+    ensures { result ≡ joins_now (meaning arena.now) out.now p d v }
 {
     if out[v].grade != UNGRADED {
         false
@@ -143,7 +143,7 @@ fn clear(out: &mut [Outcome], n: usize)
 // The priority of v while it has no grade, else UNGRADED. A graded vertex is not asked about.
 fn open_priority<X: Arena>(arena: &X, out: &[Outcome], v: usize) -> u16
     requires { ((meaning arena.now).count ≤ length out.now) × (v < (meaning arena.now).count) }
-    ensures { result ≡ open-level (meaning arena.now) out.now v }
+    ensures { result ≡ open_level (meaning arena.now) out.now v }
 {
     if out[v].grade == UNGRADED {
         arena.priority(v)
@@ -155,7 +155,7 @@ fn open_priority<X: Arena>(arena: &X, out: &[Outcome], v: usize) -> u16
 // The least priority of a vertex that has no grade yet, if there is one.
 fn least_open<X: Arena>(arena: &X, out: &[Outcome]) -> Option<u16>
     requires { (meaning arena.now).count ≤ length out.now }
-    ensures { Least-open (meaning arena.now) out.now result }
+    ensures { LeastOpen (meaning arena.now) out.now result }
 {
     let mut least = UNGRADED;
     for v in 0..arena.count() {

@@ -2,71 +2,71 @@
 use Rattle.std.proofs.Common.{◌≡◌, ℕ, ◌<◌, ◌≤◌, true, List, sym, ◌∙◌, subst, inl, inr}
 use Rattle.parity.proofs.Players.{which}
 use Rattle.parity.specs.declared.player.Player.TheVariants.{Zero, One}
-use Rattle.draft.specs.Automaton.{Automaton, state-count, priority-of, is-complete}
-use Rattle.draft.specs.WellFormed.{Well-formed}
-use Rattle.runs.specs.Run.{rule-node, Accepts}
+use Rattle.draft.specs.Automaton.{Automaton, state_count, priority_of, is_complete}
+use Rattle.draft.specs.WellFormed.{WellFormed}
+use Rattle.runs.specs.Run.{rule_node, Accepts}
 use Rattle.runs.specs.Word.{letter, Readable}
-use Rattle.runs.specs.WordGame.{word-moves}
-use Rattle.runs.specs.Accepting.{word-winner}
-use Rattle.runs.proofs.Accepted.{same-winner, accepted-wins, won-accepts}
-use Rattle.runs.proofs.Folds.{fold, letter-in}
-use Rattle.runs.proofs.Formed.{Formed, formed, rule-is}
-use Rattle.runs.proofs.Insides.{inside-winner}
-use Rattle.runs.proofs.WordGames.{st, nd, word-arena}
+use Rattle.runs.specs.WordGame.{word_moves}
+use Rattle.runs.specs.Accepting.{word_winner}
+use Rattle.runs.proofs.Accepted.{same_winner, accepted_wins, won_accepts}
+use Rattle.runs.proofs.Folds.{fold, letter_in}
+use Rattle.runs.proofs.Formed.{Formed, formed, rule_is}
+use Rattle.runs.proofs.Insides.{inside_winner}
+use Rattle.runs.proofs.WordGames.{st, nd, word_arena}
 use Rattle.inclusion.specs.Comparable.{Comparable}
-use Rattle.inclusion.specs.PairGame.{states-at, nodes-at, pair-moves, pair-winner}
+use Rattle.inclusion.specs.PairGame.{states_at, nodes_at, pair_moves, pair_winner}
 use Rattle.inclusion.specs.Safe.{Safe}
-use Rattle.inclusion.specs.Stratified.{Named-below, Stratified}
+use Rattle.inclusion.specs.Stratified.{NamedBelow, Stratified}
 use Rattle.inclusion.proofs.Clash.{clash}
-use Rattle.inclusion.proofs.PairArena.{Three-games}
-use Rattle.inclusion.proofs.PairGames.{states-in, pair-sound, pair-arena}
+use Rattle.inclusion.proofs.PairArena.{ThreeGames}
+use Rattle.inclusion.proofs.PairGames.{states_in, pair_sound, pair_arena}
 
 -- no rule leads to a larger priority, whatever is read
-falls : (a : Automaton) → is-complete a ≡ true → Stratified a → (word : ℕ → ℕ) → ((i : ℕ) → word i < a.letters) →
-    (p i q : ℕ) → p < state-count a → Named-below a q (rule-node a p (word i)) → priority-of a q ≤ priority-of a p
-falls a c s word reads p i q p< n = s p (word i) (rule-node a p (word i)) q (rule-is a c p (word i) p< (reads i)) n
+falls : (a : Automaton) → is_complete a ≡ true → Stratified a → (word : ℕ → ℕ) → ((i : ℕ) → word i < a.letters) →
+    (p i q : ℕ) → p < state_count a → NamedBelow a q (rule_node a p (word i)) → priority_of a q ≤ priority_of a p
+falls a c s word reads p i q p< n = s p (word i) (rule_node a p (word i)) q (rule_is a c p (word i) p< (reads i)) n
 
-module _ (a b : Automaton) (wa : Well-formed a) (wb : Well-formed b) (k : Comparable a b) (prefix period : List ℕ) (r : Readable a.letters prefix period) where
+module _ (a b : Automaton) (wa : WellFormed a) (wb : WellFormed b) (k : Comparable a b) (prefix period : List ℕ) (r : Readable a.letters prefix period) where
   fa : Formed a
-  fa = formed a wa k.first-complete
+  fa = formed a wa k.first_complete
 
   fb : Formed b
-  fb = formed b wb k.second-complete
+  fb = formed b wb k.second_complete
 
   r' : Readable b.letters prefix period
-  r' = subst (λ n. Readable n prefix period) k.same-letters r
+  r' = subst (λ n. Readable n prefix period) k.same_letters r
 
-  pub three-games : Three-games a b (letter prefix period)
-  three-games = record {
-    C = pair-moves a b;
-    A = word-moves a prefix period;
-    B = word-moves b prefix period;
-    sp = states-at a b;
-    np = nodes-at a b;
-    stA = st a fa prefix period r;
-    ndA = nd a fa prefix period r;
-    stB = st b fb prefix period r';
-    ndB = nd b fb prefix period r';
-    pairs = pair-arena a b fa fb k.same-letters wa.some-letters (letter prefix period) (letter-in prefix period a.letters r);
-    first = word-arena a fa prefix period r;
-    second = word-arena b fb prefix period r';
+  pub three_games : ThreeGames a b (letter prefix period)
+  three_games = record {
+    C = pair_moves a b;
+    A = word_moves a prefix period;
+    B = word_moves b prefix period;
+    sp = states_at a b;
+    np = nodes_at a b;
+    st_a = st a fa prefix period r;
+    nd_a = nd a fa prefix period r;
+    st_b = st b fb prefix period r';
+    nd_b = nd b fb prefix period r';
+    pairs = pair_arena a b fa fb k.same_letters wa.some_letters (letter prefix period) (letter_in prefix period a.letters r);
+    first = word_arena a fa prefix period r;
+    second = word_arena b fb prefix period r';
   }
 
-  module _ (p q : ℕ) (p< : p < state-count a) (q< : q < state-count b) (won : pair-winner a b p q ≡ Zero) (acc : Accepts a (letter prefix period) p) where
-    not-one : word-winner b prefix period q ≡ One → ⊥
-    unfolding fold three-games
-    not-one lost =
-        clash a b (letter prefix period) three-games
-        (falls a k.first-complete k.first-stratified (letter prefix period) (letter-in prefix period a.letters r))
-        (falls b k.second-complete k.second-stratified (letter prefix period) (letter-in prefix period b.letters r'))
+  module _ (p q : ℕ) (p< : p < state_count a) (q< : q < state_count b) (won : pair_winner a b p q ≡ Zero) (acc : Accepts a (letter prefix period) p) where
+    not_one : word_winner b prefix period q ≡ One → ⊥
+    unfolding fold three_games
+    not_one lost =
+        clash a b (letter prefix period) three_games
+        (falls a k.first_complete k.first_stratified (letter prefix period) (letter_in prefix period a.letters r))
+        (falls b k.second_complete k.second_stratified (letter prefix period) (letter_in prefix period b.letters r'))
         p q p< q<
-        (sym (inside-winner (pair-moves a b) (pair-sound a b fa fb k.same-letters wa.some-letters) (states-at a b p q) (states-in a b p q p< q<)) ∙ won)
-        (sym (same-winner a fa prefix period r p p<) ∙ accepted-wins a fa prefix period r p p< acc)
-        (sym (same-winner b fb prefix period r' q q<) ∙ lost)
+        (sym (inside_winner (pair_moves a b) (pair_sound a b fa fb k.same_letters wa.some_letters) (states_at a b p q) (states_in a b p q p< q<)) ∙ won)
+        (sym (same_winner a fa prefix period r p p<) ∙ accepted_wins a fa prefix period r p p< acc)
+        (sym (same_winner b fb prefix period r' q q<) ∙ lost)
 
     pub contains : Accepts b (letter prefix period) q
     contains =
-        elim (which (word-winner b prefix period q) Zero) [ inl e ↦ won-accepts b fb prefix period r' q q< e | inr e ↦ absurd (not-one e) ]
+        elim (which (word_winner b prefix period q) Zero) [ inl e ↦ won_accepts b fb prefix period r' q q< e | inr e ↦ absurd (not_one e) ]
 
 pub contained : Safe
 contained a b wa wb k p q p< q< won prefix period r acc = contains a b wa wb k prefix period r p q p< q< won acc

@@ -2,64 +2,64 @@
 use Rattle.std.proofs.Common.{◌≡◌, ℕ, zero, suc, ◌+◌, ◌*◌, ◌%◌, ◌<◌, ◌≤◌, Bool, true, false, cond, ◌||◌, eqb, ap, ap₂, inl, inr, arith}
 use Rattle.std.proofs.lemmas.Bool.{cases_lt, ne_eqb, cond-false, or_from}
 use Rattle.parity.proofs.Parities.{parity}
-use Rattle.inclusion.specs.PairGame.{pair-priority}
+use Rattle.inclusion.specs.PairGame.{pair_priority}
 
 bit : (t : Bool) → cond t 0 1 ≤ 1
 bit true = omega arith
 bit false = omega arith
 
-pub pair-low : (p q : ℕ) → p ≤ 1000 → q ≤ 1000 → pair-priority p q ≤ 4001
-pair-low p q l l' = omega (arith, bit (eqb (p % 2) 1 || eqb (q % 2) 0))
+pub pair_low : (p q : ℕ) → p ≤ 1000 → q ≤ 1000 → pair_priority p q ≤ 4001
+pair_low p q l l' = omega (arith, bit (eqb (p % 2) 1 || eqb (q % 2) 0))
 
-pair-odd : (p q : ℕ) → p % 2 ≡ 0 → q % 2 ≡ 1 → pair-priority p q ≡ 2 * (p + q) + 1
-pair-odd p q z o = ap (λ k. 2 * (p + q) + k) (cond-false (eqb (p % 2) 1 || eqb (q % 2) 0) 0 1 (or_from _ _ (ne_eqb (p % 2) 1 (λ h. omega arith)) (ne_eqb (q % 2) 0 (λ h. omega arith))))
+pair_odd : (p q : ℕ) → p % 2 ≡ 0 → q % 2 ≡ 1 → pair_priority p q ≡ 2 * (p + q) + 1
+pair_odd p q z o = ap (λ k. 2 * (p + q) + k) (cond-false (eqb (p % 2) 1 || eqb (q % 2) 0) 0 1 (or_from _ _ (ne_eqb (p % 2) 1 (λ h. omega arith)) (ne_eqb (q % 2) 0 (λ h. omega arith))))
 
-pair-least : (p q : ℕ) → 2 * (p + q) ≤ pair-priority p q
-pair-least p q = omega arith
+pair_least : (p q : ℕ) → 2 * (p + q) ≤ pair_priority p q
+pair_least p q = omega arith
 
 falls : (f : ℕ → ℕ) → ((i : ℕ) → f (suc i) ≤ f i) → (i j : ℕ) → i ≤ j → f j ≤ f i
 falls f h i zero l = (let e : i ≡ 0 = omega arith in rw e (omega arith))
 falls f h i (suc j) l = elim (cases_lt i (suc j)) [ inl l' ↦ omega (arith, falls f h i j (omega arith), h j) | inr l' ↦ (let e : i ≡ suc j = omega arith in rw e (omega arith)) ]
 
 -- an odd first priority, an even second one and an odd pair are each followed by a smaller one: then the sum falls for ever
-module _ (p q : ℕ → ℕ) (p-falls : (i : ℕ) → p (suc i) ≤ p i) (q-falls : (i : ℕ) → q (suc i) ≤ q i)
+module _ (p q : ℕ → ℕ) (p_falls : (i : ℕ) → p (suc i) ≤ p i) (q_falls : (i : ℕ) → q (suc i) ≤ q i)
     (odd-p : (i : ℕ) → p i % 2 ≡ 1 → (j : ℕ) × (p j < p i)) (even-q : (i : ℕ) → q i % 2 ≡ 0 → (j : ℕ) × (q j < q i))
-    (odd-pair : (i : ℕ) → pair-priority (p i) (q i) % 2 ≡ 1 → (j : ℕ) × (pair-priority (p j) (q j) < pair-priority (p i) (q i))) where
+    (odd-pair : (i : ℕ) → pair_priority (p i) (q i) % 2 ≡ 1 → (j : ℕ) × (pair_priority (p j) (q j) < pair_priority (p i) (q i))) where
   abbrev Smaller : ℕ → Type 0
   Smaller i = (j : ℕ) × (p j + q j < p i + q i)
 
-  by-p : (i : ℕ) → p i % 2 ≡ 1 → Smaller i
-  by-p i o =
+  by_p : (i : ℕ) → p i % 2 ≡ 1 → Smaller i
+  by_p i o =
       let r = odd-p i o in
-      elim (cases_lt i r.0) [ inl l ↦ (r.0, omega (arith, r.1, falls q q-falls i r.0 (omega arith))) | inr l ↦ absurd (omega (arith, r.1, falls p p-falls r.0 i l)) ]
+      elim (cases_lt i r.0) [ inl l ↦ (r.0, omega (arith, r.1, falls q q_falls i r.0 (omega arith))) | inr l ↦ absurd (omega (arith, r.1, falls p p_falls r.0 i l)) ]
 
-  by-q : (i : ℕ) → q i % 2 ≡ 0 → Smaller i
-  by-q i z =
+  by_q : (i : ℕ) → q i % 2 ≡ 0 → Smaller i
+  by_q i z =
       let r = even-q i z in
-      elim (cases_lt i r.0) [ inl l ↦ (r.0, omega (arith, r.1, falls p p-falls i r.0 (omega arith))) | inr l ↦ absurd (omega (arith, r.1, falls q q-falls r.0 i l)) ]
+      elim (cases_lt i r.0) [ inl l ↦ (r.0, omega (arith, r.1, falls p p_falls i r.0 (omega arith))) | inr l ↦ absurd (omega (arith, r.1, falls q q_falls r.0 i l)) ]
 
-  by-pair : (i : ℕ) → p i % 2 ≡ 0 → q i % 2 ≡ 1 → Smaller i
-  by-pair i z o = elim (cases_lt (p r.0 + q r.0) (p i + q i)) [ inl l ↦ (r.0, l) | inr l ↦ absurd (not-less l) ]
+  by_pair : (i : ℕ) → p i % 2 ≡ 0 → q i % 2 ≡ 1 → Smaller i
+  by_pair i z o = elim (cases_lt (p r.0 + q r.0) (p i + q i)) [ inl l ↦ (r.0, l) | inr l ↦ absurd (not_less l) ]
     where
-      odd : pair-priority (p i) (q i) ≡ 2 * (p i + q i) + 1
-      odd = pair-odd (p i) (q i) z o
+      odd : pair_priority (p i) (q i) ≡ 2 * (p i + q i) + 1
+      odd = pair_odd (p i) (q i) z o
 
-      r : (j : ℕ) × (pair-priority (p j) (q j) < pair-priority (p i) (q i))
+      r : (j : ℕ) × (pair_priority (p j) (q j) < pair_priority (p i) (q i))
       r = odd-pair i (let e = odd in omega arith)
 
       equal : p r.0 ≡ p i → q r.0 ≡ q i → ⊥
-      equal e e' = omega (arith, r.1, ap₂ pair-priority e e')
+      equal e e' = omega (arith, r.1, ap₂ pair_priority e e')
 
-      not-less : p i + q i ≤ p r.0 + q r.0 → ⊥
-      not-less l =
-          let t : p r.0 + q r.0 ≤ p i + q i = omega (arith, r.1, odd, pair-least (p r.0) (q r.0)) in
+      not_less : p i + q i ≤ p r.0 + q r.0 → ⊥
+      not_less l =
+          let t : p r.0 + q r.0 ≤ p i + q i = omega (arith, r.1, odd, pair_least (p r.0) (q r.0)) in
           elim (cases_lt i r.0) [
-            | inl k ↦ (let fp = falls p p-falls i r.0 (omega arith) in let fq = falls q q-falls i r.0 (omega arith) in equal (omega arith) (omega arith))
-            | inr k ↦ (let fp = falls p p-falls r.0 i k in let fq = falls q q-falls r.0 i k in equal (omega arith) (omega arith))
+            | inl k ↦ (let fp = falls p p_falls i r.0 (omega arith) in let fq = falls q q_falls i r.0 (omega arith) in equal (omega arith) (omega arith))
+            | inr k ↦ (let fp = falls p p_falls r.0 i k in let fq = falls q q_falls r.0 i k in equal (omega arith) (omega arith))
           ]
 
   smaller : (i : ℕ) → Smaller i
-  smaller i = elim (parity (p i)) [ inr o ↦ by-p i o | inl z ↦ elim (parity (q i)) [ inl y ↦ by-q i y | inr o ↦ by-pair i z o ] ]
+  smaller i = elim (parity (p i)) [ inr o ↦ by_p i o | inl z ↦ elim (parity (q i)) [ inl y ↦ by_q i y | inr o ↦ by_pair i z o ] ]
 
   descent : (s i : ℕ) → p i + q i < s → ⊥
   descent zero i l = omega arith

@@ -6,11 +6,11 @@ use Rattle.parity.specs.declared.player.Player.{Player}
 use Rattle.parity.specs.declared.player.Player.TheVariants.{Zero, One}
 use Rattle.draft.specs.declared.parts.Node.{Node}
 use Rattle.draft.specs.declared.parts.Node.TheVariants.{Leaf, Either, Both}
-use Rattle.draft.specs.Automaton.{Automaton, state-count, node-count, priority-of, node_of}
-use Rattle.runs.specs.Run.{rule-node}
+use Rattle.draft.specs.Automaton.{Automaton, state_count, node_count, priority_of, node_of}
+use Rattle.runs.specs.Run.{rule_node}
 use Rattle.runs.proofs.Moved.{Step, Two, taken}
-use Rattle.runs.proofs.WordArena.{Word-arena}
-use Rattle.inclusion.specs.PairGame.{pair-priority}
+use Rattle.runs.proofs.WordArena.{WordArena}
+use Rattle.inclusion.specs.PairGame.{pair_priority}
 
 -- u belongs to x and has four moves
 abbrev pub Four : Game → Player → ℕ → ℕ → ℕ → ℕ → ℕ → Type 0
@@ -33,41 +33,41 @@ of_four G m x u k l k' l' legal d e0 e1 e2 e3 =
     ]
 
 -- sp p q is the vertex of two states, np x y that of two nodes
-abbrev pub Pair-at : Game → (ℕ → ℕ → ℕ) → (ℕ → ℕ → ℕ) → ℕ → ℕ → Node → Node → Type 0
-Pair-at C sp np x y (Leaf p) (Leaf q) = (C.degree (np x y) ≡ 1) × (C.successor (np x y) 0 ≡ sp p q)
-Pair-at C sp np x y (Leaf p) (Either c d) = Two C Zero (np x y) (np x c) (np x d)
-Pair-at C sp np x y (Leaf p) (Both c d) = Two C One (np x y) (np x c) (np x d)
-Pair-at C sp np x y (Either a b) (Leaf q) = Two C One (np x y) (np a y) (np b y)
-Pair-at C sp np x y (Either a b) (Either c d) = Two C One (np x y) (np a y) (np b y)
-Pair-at C sp np x y (Either a b) (Both c d) = Four C One (np x y) (np a y) (np b y) (np x c) (np x d)
-Pair-at C sp np x y (Both a b) (Leaf q) = Two C Zero (np x y) (np a y) (np b y)
-Pair-at C sp np x y (Both a b) (Either c d) = Four C Zero (np x y) (np a y) (np b y) (np x c) (np x d)
-Pair-at C sp np x y (Both a b) (Both c d) = Two C One (np x y) (np x c) (np x d)
+abbrev pub PairAt : Game → (ℕ → ℕ → ℕ) → (ℕ → ℕ → ℕ) → ℕ → ℕ → Node → Node → Type 0
+PairAt C sp np x y (Leaf p) (Leaf q) = (C.degree (np x y) ≡ 1) × (C.successor (np x y) 0 ≡ sp p q)
+PairAt C sp np x y (Leaf p) (Either c d) = Two C Zero (np x y) (np x c) (np x d)
+PairAt C sp np x y (Leaf p) (Both c d) = Two C One (np x y) (np x c) (np x d)
+PairAt C sp np x y (Either a b) (Leaf q) = Two C One (np x y) (np a y) (np b y)
+PairAt C sp np x y (Either a b) (Either c d) = Two C One (np x y) (np a y) (np b y)
+PairAt C sp np x y (Either a b) (Both c d) = Four C One (np x y) (np a y) (np b y) (np x c) (np x d)
+PairAt C sp np x y (Both a b) (Leaf q) = Two C Zero (np x y) (np a y) (np b y)
+PairAt C sp np x y (Both a b) (Either c d) = Four C Zero (np x y) (np a y) (np b y) (np x c) (np x d)
+PairAt C sp np x y (Both a b) (Both c d) = Two C One (np x y) (np x c) (np x d)
 
-pub record Pair-arena (C : Game) (a b : Automaton) (word : ℕ → ℕ) (sp np : ℕ → ℕ → ℕ) : Type 0 where
+pub record PairArena (C : Game) (a b : Automaton) (word : ℕ → ℕ) (sp np : ℕ → ℕ → ℕ) : Type 0 where
   pub sound : Sound C
-  pub even-zero : C.even-side ≡ Zero
-  pub state-in : (p q : ℕ) → p < state-count a → q < state-count b → sp p q < C.count
-  pub node_in : (x y : ℕ) → x < node-count a → y < node-count b → np x y < C.count
-  pub state-owner : (p q : ℕ) → p < state-count a → q < state-count b → C.owner (sp p q) ≡ One
-  pub state-degree : (p q i : ℕ) → p < state-count a → q < state-count b → word i < C.degree (sp p q)
-  pub state-next : (p q i : ℕ) → p < state-count a → q < state-count b →
-      C.successor (sp p q) (word i) ≡ np (rule-node a p (word i)) (rule-node b q (word i))
-  pub state-priority : (p q : ℕ) → p < state-count a → q < state-count b → C.priority (sp p q) ≡ pair-priority (priority-of a p) (priority-of b q)
-  pub node-high : (x y : ℕ) → x < node-count a → y < node-count b → C.priority (np x y) ≡ 9999
-  pub node_at : (x y : ℕ) → x < node-count a → y < node-count b → Pair-at C sp np x y (node_of a x) (node_of b y)
+  pub even_zero : C.even_side ≡ Zero
+  pub state_in : (p q : ℕ) → p < state_count a → q < state_count b → sp p q < C.count
+  pub node_in : (x y : ℕ) → x < node_count a → y < node_count b → np x y < C.count
+  pub state_owner : (p q : ℕ) → p < state_count a → q < state_count b → C.owner (sp p q) ≡ One
+  pub state_degree : (p q i : ℕ) → p < state_count a → q < state_count b → word i < C.degree (sp p q)
+  pub state_next : (p q i : ℕ) → p < state_count a → q < state_count b →
+      C.successor (sp p q) (word i) ≡ np (rule_node a p (word i)) (rule_node b q (word i))
+  pub state_priority : (p q : ℕ) → p < state_count a → q < state_count b → C.priority (sp p q) ≡ pair_priority (priority_of a p) (priority_of b q)
+  pub node_high : (x y : ℕ) → x < node_count a → y < node_count b → C.priority (np x y) ≡ 9999
+  pub node_at : (x y : ℕ) → x < node_count a → y < node_count b → PairAt C sp np x y (node_of a x) (node_of b y)
 
 -- the pair game, and the word games of both automata on one word
-pub record Three-games (a b : Automaton) (word : ℕ → ℕ) : Type 0 where
+pub record ThreeGames (a b : Automaton) (word : ℕ → ℕ) : Type 0 where
   pub C : Game
   pub A : Game
   pub B : Game
   pub sp : ℕ → ℕ → ℕ
   pub np : ℕ → ℕ → ℕ
-  pub stA : ℕ → ℕ → ℕ
-  pub ndA : ℕ → ℕ → ℕ
-  pub stB : ℕ → ℕ → ℕ
-  pub ndB : ℕ → ℕ → ℕ
-  pub pairs : Pair-arena C a b word sp np
-  pub first : Word-arena A a word stA ndA
-  pub second : Word-arena B b word stB ndB
+  pub st_a : ℕ → ℕ → ℕ
+  pub nd_a : ℕ → ℕ → ℕ
+  pub st_b : ℕ → ℕ → ℕ
+  pub nd_b : ℕ → ℕ → ℕ
+  pub pairs : PairArena C a b word sp np
+  pub first : WordArena A a word st_a nd_a
+  pub second : WordArena B b word st_b nd_b

@@ -3,15 +3,15 @@
 mod place;
 
 ghost use Rattle.inclusion.specs.Exchange.{Exchange};
-ghost use Rattle.inclusion.specs.PairBounds.{Pair-bounds};
+ghost use Rattle.inclusion.specs.PairBounds.{PairBounds};
 ghost use Rattle.inclusion.specs.Safe.{Safe};
-ghost use Rattle.inclusion.specs.Stratified.{Stratified-tested};
+ghost use Rattle.inclusion.specs.Stratified.{StratifiedTested};
 
 pub use place::PairPlace;
 
 // The test of stratification holds exactly of the stratified automata.
 pub fn stratified_tested()
-    ensures { Stratified-tested }
+    ensures { StratifiedTested }
 {}
 
 // Where player 0 wins a pair of states, the second automaton accepts every repeating word that the first accepts.
@@ -26,5 +26,5 @@ pub fn exchange()
 
 // The pair game is one that an arena may mean.
 pub fn pair_bounds()
-    ensures { Pair-bounds }
+    ensures { PairBounds }
 {}

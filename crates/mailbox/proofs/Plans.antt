@@ -8,15 +8,15 @@ use Rattle.parity.specs.Play.{Winning}
 use Rattle.parity.specs.Grading.{winner}
 use Rattle.parity.specs.Determinacy.{reported}
 use Rattle.parity.proofs.Determined as theorem
-use Rattle.mailbox.specs.Promise.{Zero-wins}
+use Rattle.mailbox.specs.Promise.{ZeroWins}
 
 module _ (G : Game) (sound : Sound G) (v : ℕ) (v< : v < G.count) where
-  pub wins-by-plan : winner G v ≡ Zero → Zero-wins G v
-  wins-by-plan e = (reported G, subst (λ x. Winning G x (reported G) v) e (theorem.determinacy G sound v v<).0)
+  pub wins_by_plan : winner G v ≡ Zero → ZeroWins G v
+  wins_by_plan e = (reported G, subst (λ x. Winning G x (reported G) v) e (theorem.determinacy G sound v v<).0)
 
-  by-plan : (x : Player) → winner G v ≡ x → Zero-wins G v → winner G v ≡ Zero
-  by-plan Zero e won = e
-  by-plan One e (plan, w) = absurd ((theorem.determinacy G sound v v<).1 plan (subst (λ x. Winning G (other x) plan v) (sym e) w))
+  by_plan : (x : Player) → winner G v ≡ x → ZeroWins G v → winner G v ≡ Zero
+  by_plan Zero e won = e
+  by_plan One e (plan, w) = absurd ((theorem.determinacy G sound v v<).1 plan (subst (λ x. Winning G (other x) plan v) (sym e) w))
 
-  pub plan-wins : Zero-wins G v → winner G v ≡ Zero
-  plan-wins = by-plan (winner G v) refl
+  pub plan_wins : ZeroWins G v → winner G v ≡ Zero
+  plan_wins = by_plan (winner G v) refl

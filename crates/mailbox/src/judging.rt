@@ -1,7 +1,7 @@
 // The judgement whether one draft is contained in another.
 ghost use Rattle.std.specs.Prelude.{◌≡◌};
 ghost use Rattle.draft.specs.Meaning.{meaning as automaton};
-ghost use Rattle.contain.specs.Containing.{contain-answer};
+ghost use Rattle.contain.specs.Containing.{contain_answer};
 ghost use Rattle.mailbox.specs.Promise.{Promise};
 
 use contain::{ContainFault, Containment, contain};
@@ -16,7 +16,7 @@ pub fn judge<'a>(
     second_state: usize,
     out: &mut [Outcome],
 ) -> Result<Containment, ContainFault>
-    ensures answer { (result, out.new) ≡ contain-answer (automaton first.now) first_state (automaton second.now) second_state out.old }
+    ensures answer { (result, out.new) ≡ contain_answer (automaton first.now) first_state (automaton second.now) second_state out.old }
     ensures promise { Promise }
 {
     contain(first, first_state, second, second_state, out)

@@ -5,56 +5,56 @@ use Rattle.std.proofs.lemmas.Bool.{cases_lt, cond-true, cond-false, and_parts, o
 use Rattle.parity.specs.Grading.{level}
 use Rattle.parity.specs.Game.{Game, Sound, favoured}
 use Rattle.parity.specs.Player.{other, same}
-use Rattle.parity.specs.Below.{some_below, all-below}
+use Rattle.parity.specs.Below.{some_below, all_below}
 use Rattle.parity.proofs.Players.{same_true, true_same, false_same}
-use Rattle.parity.proofs.Below.{some-gives, all-gives}
+use Rattle.parity.proofs.Below.{some_gives, all_gives}
 use Rattle.parity.specs.Certificate.{Fits, Certificate}
 
 module _ (G : Game) (g δ : ℕ → ℕ) (v : ℕ) where
   abbrev at_low : Bool
   at_low = leb (g v) (level G v) && Bool.beq (eqb (δ v) 0) (eqb (g v) (level G v)) && leb (δ v) G.count
 
-  abbrev at-keep : Bool
-  at-keep = some_below (G.degree v) (λ i. leb (g v) (g (G.successor v i)))
+  abbrev at_keep : Bool
+  at_keep = some_below (G.degree v) (λ i. leb (g v) (g (G.successor v i)))
 
-  abbrev at-lower : Bool
-  at-lower = all-below (G.degree v) (λ i. leb (g v) (g (G.successor v i)) || same (G.owner v) (other (favoured G (g (G.successor v i)))))
+  abbrev at_lower : Bool
+  at_lower = all_below (G.degree v) (λ i. leb (g v) (g (G.successor v i)) || same (G.owner v) (other (favoured G (g (G.successor v i)))))
 
-  abbrev at-mine : Bool
-  at-mine =
+  abbrev at_mine : Bool
+  at_mine =
       some_below (G.degree v) (λ i. eqb (g (G.successor v i)) (g v) && ltb (δ (G.successor v i)) (δ v))
-      && all-below (G.degree v) (λ i. not (eqb (g (G.successor v i)) (g v)) || leb (δ v) (suc (δ (G.successor v i))))
+      && all_below (G.degree v) (λ i. not (eqb (g (G.successor v i)) (g v)) || leb (δ v) (suc (δ (G.successor v i))))
 
-  abbrev at-theirs : Bool
-  at-theirs =
-      all-below (G.degree v) (λ i. ltb (g (G.successor v i)) (g v) || (eqb (g (G.successor v i)) (g v) && ltb (δ (G.successor v i)) (δ v)))
+  abbrev at_theirs : Bool
+  at_theirs =
+      all_below (G.degree v) (λ i. ltb (g (G.successor v i)) (g v) || (eqb (g (G.successor v i)) (g v) && ltb (δ (G.successor v i)) (δ v)))
       && some_below (G.degree v) (λ i. eqb (g (G.successor v i)) (g v) && leb (δ v) (suc (δ (G.successor v i))))
 
   unfoldable pub fits : Bool
-  fits = at_low && at-keep && at-lower && (eqb (δ v) 0 || cond (same (G.owner v) (favoured G (g v))) at-mine at-theirs)
+  fits = at_low && at_keep && at_lower && (eqb (δ v) 0 || cond (same (G.owner v) (favoured G (g v))) at_mine at_theirs)
 
-  pub fits-from : fits ≡ true → Fits G g δ v
+  pub fits_from : fits ≡ true → Fits G g δ v
   unfolding fits
-  fits-from t = record {
+  fits_from t = record {
     low = leb-true _ _ lows0.0;
     base = λ z. eqb-true _ _ ((beq (eqb (δ v) 0) (eqb (g v) (level G v)) lows0.1).0 (eq-eqb _ _ z));
     top = λ z. eqb-true _ _ ((beq (eqb (δ v) 0) (eqb (g v) (level G v)) lows0.1).1 (eq-eqb _ _ z));
     short = leb-true _ _ lows.1;
-    keep = (let k = some-gives _ _ p2.1 in (k.0, k.1, leb-true _ _ k.2));
-    lower = λ i i< l. elim (or_cases _ _ (all-gives _ _ p3.1 i i<)) [ inl h ↦ absurd (let h' = leb-true (g v) (g (G.successor v i)) h in omega arith) | inr h ↦ same_true _ _ h ];
-    mine = λ own pos. let k = some-gives _ _ (own-part own pos).0 in let q = and_parts _ _ k.2 in (k.0, k.1, eqb-true _ _ q.0, ltb-true _ _ q.1);
-    mine-least = λ own i i< e. elim (cases_lt 0 (δ v)) [ inl pos ↦ elim (or_cases _ _ (all-gives _ _ (own-part own pos).1 i i<)) [ inl h ↦ absurd (eqb-false _ _ (not-true _ h) e) | inr h ↦ leb-true _ _ h ] | inr none ↦ omega arith ];
-    theirs = λ own pos i i< up. elim (or_cases _ _ (all-gives _ _ (other-part own pos).0 i i<)) [ inl h ↦ absurd (let h' = ltb-true (g (G.successor v i)) (g v) h in omega arith) | inr h ↦ (let q = and_parts _ _ h in (eqb-true _ _ q.0, ltb-true _ _ q.1)) ];
-    theirs-least = λ own pos. let k = some-gives _ _ (other-part own pos).1 in let q = and_parts _ _ k.2 in (k.0, k.1, eqb-true _ _ q.0, leb-true _ _ q.1);
+    keep = (let k = some_gives _ _ p2.1 in (k.0, k.1, leb-true _ _ k.2));
+    lower = λ i i< l. elim (or_cases _ _ (all_gives _ _ p3.1 i i<)) [ inl h ↦ absurd (let h' = leb-true (g v) (g (G.successor v i)) h in omega arith) | inr h ↦ same_true _ _ h ];
+    mine = λ own pos. let k = some_gives _ _ (own_part own pos).0 in let q = and_parts _ _ k.2 in (k.0, k.1, eqb-true _ _ q.0, ltb-true _ _ q.1);
+    mine_least = λ own i i< e. elim (cases_lt 0 (δ v)) [ inl pos ↦ elim (or_cases _ _ (all_gives _ _ (own_part own pos).1 i i<)) [ inl h ↦ absurd (eqb-false _ _ (not-true _ h) e) | inr h ↦ leb-true _ _ h ] | inr none ↦ omega arith ];
+    theirs = λ own pos i i< up. elim (or_cases _ _ (all_gives _ _ (other_part own pos).0 i i<)) [ inl h ↦ absurd (let h' = ltb-true (g (G.successor v i)) (g v) h in omega arith) | inr h ↦ (let q = and_parts _ _ h in (eqb-true _ _ q.0, ltb-true _ _ q.1)) ];
+    theirs_least = λ own pos. let k = some_gives _ _ (other_part own pos).1 in let q = and_parts _ _ k.2 in (k.0, k.1, eqb-true _ _ q.0, leb-true _ _ q.1);
   }
     where
-      p4 : ((at_low && at-keep && at-lower) ≡ true) × ((eqb (δ v) 0 || cond (same (G.owner v) (favoured G (g v))) at-mine at-theirs) ≡ true)
+      p4 : ((at_low && at_keep && at_lower) ≡ true) × ((eqb (δ v) 0 || cond (same (G.owner v) (favoured G (g v))) at_mine at_theirs) ≡ true)
       p4 = and_parts _ _ t
 
-      p3 : ((at_low && at-keep) ≡ true) × (at-lower ≡ true)
+      p3 : ((at_low && at_keep) ≡ true) × (at_lower ≡ true)
       p3 = and_parts _ _ p4.0
 
-      p2 : (at_low ≡ true) × (at-keep ≡ true)
+      p2 : (at_low ≡ true) × (at_keep ≡ true)
       p2 = and_parts _ _ p3.0
 
       lows : ((leb (g v) (level G v) && Bool.beq (eqb (δ v) 0) (eqb (g v) (level G v))) ≡ true) × (leb (δ v) G.count ≡ true)
@@ -69,36 +69,36 @@ module _ (G : Game) (g δ : ℕ → ℕ) (v : ℕ) where
       beq false true e = (λ _. refl, λ _. e)
       beq false false e = (λ h. h, λ h. h)
 
-      part : 0 < δ v → cond (same (G.owner v) (favoured G (g v))) at-mine at-theirs ≡ true
-      part pos = elim (or_cases (eqb (δ v) 0) (cond (same (G.owner v) (favoured G (g v))) at-mine at-theirs) p4.1) [ inl z ↦ absurd (let z' = eqb-true (δ v) 0 z in omega arith) | inr h ↦ h ]
+      part : 0 < δ v → cond (same (G.owner v) (favoured G (g v))) at_mine at_theirs ≡ true
+      part pos = elim (or_cases (eqb (δ v) 0) (cond (same (G.owner v) (favoured G (g v))) at_mine at_theirs) p4.1) [ inl z ↦ absurd (let z' = eqb-true (δ v) 0 z in omega arith) | inr h ↦ h ]
 
-      own-part : G.owner v ≡ favoured G (g v) → 0 < δ v →
+      own_part : G.owner v ≡ favoured G (g v) → 0 < δ v →
           (some_below (G.degree v) (λ i. eqb (g (G.successor v i)) (g v) && ltb (δ (G.successor v i)) (δ v)) ≡ true)
-          × (all-below (G.degree v) (λ i. not (eqb (g (G.successor v i)) (g v)) || leb (δ v) (suc (δ (G.successor v i)))) ≡ true)
-      own-part own pos = and_parts _ _ (sym (cond-true _ at-mine at-theirs (true_same _ _ own)) ∙ part pos)
+          × (all_below (G.degree v) (λ i. not (eqb (g (G.successor v i)) (g v)) || leb (δ v) (suc (δ (G.successor v i)))) ≡ true)
+      own_part own pos = and_parts _ _ (sym (cond-true _ at_mine at_theirs (true_same _ _ own)) ∙ part pos)
 
-      other-part : G.owner v ≡ other (favoured G (g v)) → 0 < δ v →
-          (all-below (G.degree v) (λ i. ltb (g (G.successor v i)) (g v) || (eqb (g (G.successor v i)) (g v) && ltb (δ (G.successor v i)) (δ v))) ≡ true)
+      other_part : G.owner v ≡ other (favoured G (g v)) → 0 < δ v →
+          (all_below (G.degree v) (λ i. ltb (g (G.successor v i)) (g v) || (eqb (g (G.successor v i)) (g v) && ltb (δ (G.successor v i)) (δ v))) ≡ true)
           × (some_below (G.degree v) (λ i. eqb (g (G.successor v i)) (g v) && leb (δ v) (suc (δ (G.successor v i)))) ≡ true)
-      other-part own pos = and_parts _ _ (sym (cond-false _ at-mine at-theirs (false_same _ _ own)) ∙ part pos)
+      other_part own pos = and_parts _ _ (sym (cond-false _ at_mine at_theirs (false_same _ _ own)) ∙ part pos)
 
 unfoldable pub fits_all : Game → (ℕ → ℕ) → (ℕ → ℕ) → Bool
-fits_all G g δ = all-below G.count (fits G g δ)
+fits_all G g δ = all_below G.count (fits G g δ)
 
-pub certificate-from : (G : Game) (g δ : ℕ → ℕ) → fits_all G g δ ≡ true → Certificate G g δ
+pub certificate_from : (G : Game) (g δ : ℕ → ℕ) → fits_all G g δ ≡ true → Certificate G g δ
 unfolding fits_all
-certificate-from G g δ t v v< = fits-from G g δ v (all-gives G.count (fits G g δ) t v v<)
+certificate_from G g δ t v v< = fits_from G g δ v (all_gives G.count (fits G g δ) t v v<)
 
 -- a test of Sound
-unfoldable pub sound-all : Game → Bool
-sound-all G = all-below G.count (λ v. ltb 0 (G.degree v) && all-below (G.degree v) (λ i. ltb (G.successor v i) G.count))
+unfoldable pub sound_all : Game → Bool
+sound_all G = all_below G.count (λ v. ltb 0 (G.degree v) && all_below (G.degree v) (λ i. ltb (G.successor v i) G.count))
 
-pub sound-from : (G : Game) → sound-all G ≡ true → Sound G
-unfolding sound-all
-sound-from G t = record {
+pub sound_from : (G : Game) → sound_all G ≡ true → Sound G
+unfolding sound_all
+sound_from G t = record {
   moves = λ v v<. ltb-true _ _ (and_parts _ _ (at v v<)).0;
-  stays = λ v i v< i<. ltb-true _ _ (all-gives (G.degree v) _ (and_parts _ _ (at v v<)).1 i i<);
+  stays = λ v i v< i<. ltb-true _ _ (all_gives (G.degree v) _ (and_parts _ _ (at v v<)).1 i i<);
 }
   where
-    at : (v : ℕ) → v < G.count → (ltb 0 (G.degree v) && all-below (G.degree v) (λ i. ltb (G.successor v i) G.count)) ≡ true
-    at v v< = all-gives G.count _ t v v<
+    at : (v : ℕ) → v < G.count → (ltb 0 (G.degree v) && all_below (G.degree v) (λ i. ltb (G.successor v i) G.count)) ≡ true
+    at v v< = all_gives G.count _ t v v<

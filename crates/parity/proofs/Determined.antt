@@ -10,14 +10,14 @@ use Rattle.parity.proofs.Graded.{graded}
 use Rattle.parity.proofs.Won.{won}
 use Rattle.parity.proofs.Duel.{only_one}
 
-pub move-legal : (G : Game) → Sound G → (u : ℕ) → u < G.count → move G u < G.degree u
-move-legal G sound u u< = (serves G (grade G) (distance G) u (graded G sound u u<)).here
+pub move_legal : (G : Game) → Sound G → (u : ℕ) → u < G.count → move G u < G.degree u
+move_legal G sound u u< = (serves G (grade G) (distance G) u (graded G sound u u<)).here
 
-pub reported-wins : (G : Game) → Sound G → (v : ℕ) → v < G.count → Winning G (winner G v) (reported G) v
-reported-wins G sound v v< = record {
+pub reported_wins : (G : Game) → Sound G → (v : ℕ) → v < G.count → Winning G (winner G v) (reported G) v
+reported_wins G sound v v< = record {
   legal = λ past u u< own. (serves G (grade G) (distance G) u (graded G sound u u<)).here;
   wins = λ π play follows. won G sound (grade G) (distance G) (move G) (graded G sound) (λ u u<. serves G (grade G) (distance G) u (graded G sound u u<)) (winner G v) v v< π play follows refl;
 }
 
 pub determinacy : Determinacy
-determinacy G sound v v< = (reported-wins G sound v v<, λ plan w. only_one G sound (winner G v) (reported G) plan v v< (reported-wins G sound v v<) w)
+determinacy G sound v v< = (reported_wins G sound v v<, λ plan w. only_one G sound (winner G v) (reported G) plan v v< (reported_wins G sound v v<) w)

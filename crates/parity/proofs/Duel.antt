@@ -12,21 +12,21 @@ module _ (G : Game) (x : Player) (π : ℕ → ℕ) (hers : Wins G x π) (his : 
   descent zero i h = omega arith
   descent (suc a) i h = elim (which (favoured G (G.priority (π i))) x) [ inl f ↦ (let s = his i (f ∙ sym (twice x)) in descent a s.0 (omega (arith, s.1))) | inr f ↦ (let s = hers i f in descent a s.0 (omega (arith, s.1))) ]
 
-  pub not-both : ⊥
-  not-both = descent (suc (G.priority (π 0))) 0 (omega arith)
+  pub not_both : ⊥
+  not_both = descent (suc (G.priority (π 0))) 0 (omega arith)
 
 -- the play of two plans from v
 module _ (G : Game) (x : Player) (hers his : Plan) where
   choose : Plan
   choose past u = elim (which (G.owner u) x) [ inl _ ↦ hers past u | inr _ ↦ his past u ]
 
-  choose-hers : (past : List ℕ) (u : ℕ) → G.owner u ≡ x → choose past u ≡ hers past u
+  choose_hers : (past : List ℕ) (u : ℕ) → G.owner u ≡ x → choose past u ≡ hers past u
   unfolding choose
-  choose-hers past u own = elim (which (G.owner u) x) as (λ w. ◌≡◌ {A = ℕ} (elim w [ inl _ ↦ hers past u | inr _ ↦ his past u ]) (hers past u)) [ inl _ ↦ refl | inr e ↦ absurd (apart x (sym own ∙ e)) ]
+  choose_hers past u own = elim (which (G.owner u) x) as (λ w. ◌≡◌ {A = ℕ} (elim w [ inl _ ↦ hers past u | inr _ ↦ his past u ]) (hers past u)) [ inl _ ↦ refl | inr e ↦ absurd (apart x (sym own ∙ e)) ]
 
-  choose-his : (past : List ℕ) (u : ℕ) → G.owner u ≡ other x → choose past u ≡ his past u
+  choose_his : (past : List ℕ) (u : ℕ) → G.owner u ≡ other x → choose past u ≡ his past u
   unfolding choose
-  choose-his past u own = elim (which (G.owner u) x) as (λ w. ◌≡◌ {A = ℕ} (elim w [ inl _ ↦ hers past u | inr _ ↦ his past u ]) (his past u)) [ inl e ↦ absurd (apart x (sym e ∙ own)) | inr _ ↦ refl ]
+  choose_his past u own = elim (which (G.owner u) x) as (λ w. ◌≡◌ {A = ℕ} (elim w [ inl _ ↦ hers past u | inr _ ↦ his past u ]) (his past u)) [ inl e ↦ absurd (apart x (sym e ∙ own)) | inr _ ↦ refl ]
 
   -- the vertices before the i-th, and the i-th
   state : ℕ → ℕ → List ℕ × ℕ
@@ -41,32 +41,32 @@ module _ (G : Game) (x : Player) (hers his : Plan) where
   past_is v zero = refl
   past_is v (suc i) = ap (λ l. (state v i).1 ∷ l) (past_is v i)
 
-  duel-next : (v i : ℕ) → duel v (suc i) ≡ G.successor (duel v i) (choose (before (duel v) i) (duel v i))
+  duel_next : (v i : ℕ) → duel v (suc i) ≡ G.successor (duel v i) (choose (before (duel v) i) (duel v i))
   unfolding duel state
-  duel-next v i = ap (λ l. G.successor (state v i).1 (choose l (state v i).1)) (sym (past_is v i))
+  duel_next v i = ap (λ l. G.successor (state v i).1 (choose l (state v i).1)) (sym (past_is v i))
 
-  pub duel-hers : (v : ℕ) → Follows G x hers (duel v)
-  duel-hers v i own = duel-next v i ∙ ap (G.successor (duel v i)) (choose-hers (before (duel v) i) (duel v i) own)
+  pub duel_hers : (v : ℕ) → Follows G x hers (duel v)
+  duel_hers v i own = duel_next v i ∙ ap (G.successor (duel v i)) (choose_hers (before (duel v) i) (duel v i) own)
 
-  pub duel-his : (v : ℕ) → Follows G (other x) his (duel v)
-  duel-his v i own = duel-next v i ∙ ap (G.successor (duel v i)) (choose-his (before (duel v) i) (duel v i) own)
+  pub duel_his : (v : ℕ) → Follows G (other x) his (duel v)
+  duel_his v i own = duel_next v i ∙ ap (G.successor (duel v i)) (choose_his (before (duel v) i) (duel v i) own)
 
   module _ (sound : Sound G) (v : ℕ) (v< : v < G.count) (hers-legal : (past : List ℕ) (u : ℕ) → u < G.count → G.owner u ≡ x → hers past u < G.degree u) (his-legal : (past : List ℕ) (u : ℕ) → u < G.count → G.owner u ≡ other x → his past u < G.degree u) where
     legal : (past : List ℕ) (u : ℕ) → u < G.count → choose past u < G.degree u
-    legal past u u< = elim (which (G.owner u) x) [ inl e ↦ rw (choose-hers past u e) (hers-legal past u u< e) | inr e ↦ rw (choose-his past u e) (his-legal past u u< e) ]
+    legal past u u< = elim (which (G.owner u) x) [ inl e ↦ rw (choose_hers past u e) (hers-legal past u u< e) | inr e ↦ rw (choose_his past u e) (his-legal past u u< e) ]
 
-    duel-inside : (i : ℕ) → duel v i < G.count
-    duel-inside zero = unfold duel state in v<
-    duel-inside (suc i) = rw (duel-next v i) (sound.stays (duel v i) (choose (before (duel v) i) (duel v i)) (duel-inside i) (legal (before (duel v) i) (duel v i) (duel-inside i)))
+    duel_inside : (i : ℕ) → duel v i < G.count
+    duel_inside zero = unfold duel state in v<
+    duel_inside (suc i) = rw (duel_next v i) (sound.stays (duel v i) (choose (before (duel v) i) (duel v i)) (duel_inside i) (legal (before (duel v) i) (duel v i) (duel_inside i)))
 
-    pub duel-play : Play G v (duel v)
-    duel-play = record {
+    pub duel_play : Play G v (duel v)
+    duel_play = record {
       starts = unfold duel state in refl;
-      goes = λ i. (choose (before (duel v) i) (duel v i), legal (before (duel v) i) (duel v i) (duel-inside i), duel-next v i);
+      goes = λ i. (choose (before (duel v) i) (duel v i), legal (before (duel v) i) (duel v i) (duel_inside i), duel_next v i);
     }
 
 -- at most one player has a winning plan
 pub only_one : (G : Game) → Sound G → (x : Player) (hers his : Plan) (v : ℕ) → v < G.count → Winning G x hers v → Winning G (other x) his v → ⊥
 only_one G sound x hers his v v< wx wo =
-    let play = duel-play G x hers his sound v v< wx.legal wo.legal in
-    not-both G x (duel G x hers his v) (wx.wins (duel G x hers his v) play (duel-hers G x hers his v)) (wo.wins (duel G x hers his v) play (duel-his G x hers his v))
+    let play = duel_play G x hers his sound v v< wx.legal wo.legal in
+    not_both G x (duel G x hers his v) (wx.wins (duel G x hers his v) play (duel_hers G x hers his v)) (wo.wins (duel G x hers his v) play (duel_his G x hers his v))

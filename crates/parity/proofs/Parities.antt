@@ -7,10 +7,10 @@ use Rattle.parity.specs.Player.{other}
 pub parity : (p : ℕ) → (p % 2 ≡ 0) ⊎ (p % 2 ≡ 1)
 parity p = elim (cases_eq (p % 2) 0) [ inl e ↦ inl e | inr n ↦ inr (omega arith) ]
 
-pub favoured-even : (G : Game) (p : ℕ) → p % 2 ≡ 0 → favoured G p ≡ G.even-side
+pub favoured_even : (G : Game) (p : ℕ) → p % 2 ≡ 0 → favoured G p ≡ G.even_side
 unfolding favoured
-favoured-even G p e = cond-true (eqb (p % 2) 0) _ _ (eq-eqb _ _ e)
+favoured_even G p e = cond-true (eqb (p % 2) 0) _ _ (eq-eqb _ _ e)
 
-pub favoured-odd : (G : Game) (p : ℕ) → p % 2 ≡ 1 → favoured G p ≡ other G.even-side
+pub favoured_odd : (G : Game) (p : ℕ) → p % 2 ≡ 1 → favoured G p ≡ other G.even_side
 unfolding favoured
-favoured-odd G p e = cond-false (eqb (p % 2) 0) _ _ (ne_eqb _ _ (λ z. omega arith))
+favoured_odd G p e = cond-false (eqb (p % 2) 0) _ _ (ne_eqb _ _ (λ z. omega arith))

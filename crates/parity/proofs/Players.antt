@@ -22,8 +22,8 @@ pub twice : (a : Player) → other (other a) ≡ a
 twice Zero = refl
 twice One = refl
 
-pub same-other : (a b : Player) → other a ≡ other b → a ≡ b
-same-other a b e = sym (twice a) ∙ ap other e ∙ twice b
+pub same_other : (a b : Player) → other a ≡ other b → a ≡ b
+same_other a b e = sym (twice a) ∙ ap other e ∙ twice b
 
 pub same_true : (a b : Player) → same a b ≡ true → a ≡ b
 same_true Zero Zero e = refl

@@ -4,9 +4,9 @@ use Rattle.std.proofs.lemmas.Bool.{both_ways, not-true, not_from_false}
 use Rattle.std.proofs.lemmas.Bool.Decides.{Decides-or, Decides-not}
 use Rattle.parity.specs.Game.{Game, Sound, favoured}
 use Rattle.parity.specs.Player.{other, same}
-use Rattle.parity.specs.Below.{some_below, all-below}
+use Rattle.parity.specs.Below.{some_below, all_below}
 use Rattle.parity.proofs.Players.{same_true, same_false, true_same, false_same}
-use Rattle.parity.proofs.Below.{some-decides, all-decides}
+use Rattle.parity.proofs.Below.{some_decides, all_decides}
 use Rattle.parity.specs.declared.player.Player.{Player}
 
 -- towards p, from the vertices Hit, where the others that count are In
@@ -15,26 +15,26 @@ Pull G p In Hit v =
     ((G.owner v ≡ favoured G p) × ((i : ℕ) × (i < G.degree v) × Hit (G.successor v i)))
     ⊎ ((G.owner v ≡ other (favoured G p)) × ((i : ℕ) → i < G.degree v → (In (G.successor v i) → ⊥) ⊎ Hit (G.successor v i)))
 
-pub pull-map : (G : Game) → Sound G → (p : ℕ) (In Hit Hit' : ℕ → Type 0) → ((u : ℕ) → u < G.count → Hit u → Hit' u) → (v : ℕ) → v < G.count → Pull G p In Hit v → Pull G p In Hit' v
-pull-map G sound p In Hit Hit' f v v< (inl (own, (i, i<, h))) = inl (own, (i, i<, f _ (sound.stays v i v< i<) h))
-pull-map G sound p In Hit Hit' f v v< (inr (own, all)) = inr (own, λ i i<. elim (all i i<) [ inl out ↦ inl out | inr h ↦ inr (f _ (sound.stays v i v< i<) h) ])
+pub pull_map : (G : Game) → Sound G → (p : ℕ) (In Hit Hit' : ℕ → Type 0) → ((u : ℕ) → u < G.count → Hit u → Hit' u) → (v : ℕ) → v < G.count → Pull G p In Hit v → Pull G p In Hit' v
+pull_map G sound p In Hit Hit' f v v< (inl (own, (i, i<, h))) = inl (own, (i, i<, f _ (sound.stays v i v< i<) h))
+pull_map G sound p In Hit Hit' f v v< (inr (own, all)) = inr (own, λ i i<. elim (all i i<) [ inl out ↦ inl out | inr h ↦ inr (f _ (sound.stays v i v< i<) h) ])
 
-pub cond-decides : (b x y : Bool) {A B P Q : Type 0} → Decides b A → Decides (not b) B → Decides x P → Decides y Q → Decides (cond b x y) ((A × P) ⊎ (B × Q))
-cond-decides true x y a b p q = (λ e. inl (a.0 refl, p.0 e), λ s. elim s [ inl t ↦ p.1 t.1 | inr t ↦ absurd (both_ways true (sym (b.1 t.0)) refl) ])
-cond-decides false x y a b p q = (λ e. inr (b.0 refl, q.0 e), λ s. elim s [ inl t ↦ absurd (both_ways false refl (a.1 t.0)) | inr t ↦ q.1 t.1 ])
+pub cond_decides : (b x y : Bool) {A B P Q : Type 0} → Decides b A → Decides (not b) B → Decides x P → Decides y Q → Decides (cond b x y) ((A × P) ⊎ (B × Q))
+cond_decides true x y a b p q = (λ e. inl (a.0 refl, p.0 e), λ s. elim s [ inl t ↦ p.1 t.1 | inr t ↦ absurd (both_ways true (sym (b.1 t.0)) refl) ])
+cond_decides false x y a b p q = (λ e. inr (b.0 refl, q.0 e), λ s. elim s [ inl t ↦ absurd (both_ways false refl (a.1 t.0)) | inr t ↦ q.1 t.1 ])
 
-pub same-decides : (a b : Player) → Decides (same a b) (a ≡ b)
-same-decides a b = (same_true a b, true_same a b)
+pub same_decides : (a b : Player) → Decides (same a b) (a ≡ b)
+same_decides a b = (same_true a b, true_same a b)
 
-pub differ-decides : (a b : Player) → Decides (not (same a b)) (a ≡ other b)
-differ-decides a b = (λ e. same_false a b (not-true (same a b) e), λ e. not_from_false (same a b) (false_same a b e))
+pub differ_decides : (a b : Player) → Decides (not (same a b)) (a ≡ other b)
+differ_decides a b = (λ e. same_false a b (not-true (same a b) e), λ e. not_from_false (same a b) (false_same a b e))
 
 module _ (G : Game) (sound : Sound G) (R hit : ℕ → Bool) (p : ℕ) (In Hit : ℕ → Type 0) (in_r : (v : ℕ) → v < G.count → Decides (R v) (In v)) (ih : (v : ℕ) → v < G.count → Decides (hit v) (Hit v)) where
-  pub pull-decides : (v : ℕ) → v < G.count →
+  pub pull_decides : (v : ℕ) → v < G.count →
       Decides (cond (same (G.owner v) (favoured G p))
       (some_below (G.degree v) (λ i. hit (G.successor v i)))
-      (all-below (G.degree v) (λ i. not (R (G.successor v i)) || hit (G.successor v i)))) (Pull G p In Hit v)
-  pull-decides v v< =
-      cond-decides (same (G.owner v) (favoured G p)) _ _ (same-decides _ _) (differ-decides _ _)
-      (some-decides (G.degree v) _ _ (λ i i<. ih (G.successor v i) (sound.stays v i v< i<)))
-      (all-decides (G.degree v) _ _ (λ i i<. Decides-or _ _ (Decides-not _ (in_r (G.successor v i) (sound.stays v i v< i<))) (ih (G.successor v i) (sound.stays v i v< i<))))
+      (all_below (G.degree v) (λ i. not (R (G.successor v i)) || hit (G.successor v i)))) (Pull G p In Hit v)
+  pull_decides v v< =
+      cond_decides (same (G.owner v) (favoured G p)) _ _ (same_decides _ _) (differ_decides _ _)
+      (some_decides (G.degree v) _ _ (λ i i<. ih (G.successor v i) (sound.stays v i v< i<)))
+      (all_decides (G.degree v) _ _ (λ i i<. Decides-or _ _ (Decides-not _ (in_r (G.successor v i) (sound.stays v i v< i<))) (ih (G.successor v i) (sound.stays v i v< i<))))

@@ -14,13 +14,13 @@ module _ (G : Game) (sound : Sound G) (g δ : ℕ → ℕ) (table : Certificate 
   Near p d u = (g u ≡ p) × (δ u ≤ d)
 
   -- of the vertices left at p, those of priority p get distance 0
-  pub base-test : (p v : ℕ) → v < G.count → p ≤ g v → (level G v ≡ p → (g v ≡ p) × (δ v ≡ 0)) × ((g v ≡ p) × (δ v ≡ 0) → level G v ≡ p)
-  base-test p v v< up = (λ e. (let s : g v ≡ p = omega (arith, (table v v<).low) in (s, (table v v<).top (s ∙ sym e))), λ n. sym ((table v v<).base n.1) ∙ n.0)
+  pub base_test : (p v : ℕ) → v < G.count → p ≤ g v → (level G v ≡ p → (g v ≡ p) × (δ v ≡ 0)) × ((g v ≡ p) × (δ v ≡ 0) → level G v ≡ p)
+  base_test p v v< up = (λ e. (let s : g v ≡ p = omega (arith, (table v v<).low) in (s, (table v v<).top (s ∙ sym e))), λ n. sym ((table v v<).base n.1) ∙ n.0)
 
   -- of those left, the ones that are pulled in get the next distance
-  pub round-test : (p d v : ℕ) → v < G.count → p ≤ g v → (Near p d v → ⊥) →
+  pub round_test : (p d v : ℕ) → v < G.count → p ≤ g v → (Near p d v → ⊥) →
       (Pull G p (λ u. p ≤ g u) (Near p d) v → (g v ≡ p) × (δ v ≡ suc d)) × ((g v ≡ p) × (δ v ≡ suc d) → Pull G p (λ u. p ≤ g u) (Near p d) v)
-  round-test p d v v< up far = (there, λ n. pulls G sound g δ table p d v v< n.0 n.1)
+  round_test p d v v< up far = (there, λ n. pulls G sound g δ table p d v v< n.0 n.1)
     where
       there : Pull G p (λ u. p ≤ g u) (Near p d) v → (g v ≡ p) × (δ v ≡ suc d)
       there h =
@@ -32,29 +32,29 @@ module _ (G : Game) (sound : Sound G) (g δ : ℕ → ℕ) (table : Certificate 
   before v v< pos = elim (which (G.owner v) (favoured G (g v))) [ inl own ↦ mine own | inr own ↦ theirs own ]
     where
       mine : G.owner v ≡ favoured G (g v) → (u : ℕ) × (u < G.count) × (g u ≡ g v) × (suc (δ u) ≡ δ v)
-      mine own = (let k = (table v v<).mine own pos in (G.successor v k.0, sound.stays v k.0 v< k.1, k.2, omega (arith, k.3, (table v v<).mine-least own k.0 k.1 k.2)))
+      mine own = (let k = (table v v<).mine own pos in (G.successor v k.0, sound.stays v k.0 v< k.1, k.2, omega (arith, k.3, (table v v<).mine_least own k.0 k.1 k.2)))
 
       theirs : G.owner v ≡ other (favoured G (g v)) → (u : ℕ) × (u < G.count) × (g u ≡ g v) × (suc (δ u) ≡ δ v)
-      theirs own = (let k = (table v v<).theirs-least own pos in let t = (table v v<).theirs own pos k.0 k.1 (omega (arith, k.2)) in (G.successor v k.0, sound.stays v k.0 v< k.1, k.2, omega (arith, k.3, t.1)))
+      theirs own = (let k = (table v v<).theirs_least own pos in let t = (table v v<).theirs own pos k.0 k.1 (omega (arith, k.2)) in (G.successor v k.0, sound.stays v k.0 v< k.1, k.2, omega (arith, k.3, t.1)))
 
   -- no distance is left out
-  pub each-distance : (n v k : ℕ) → v < G.count → δ v < n → k ≤ δ v → (u : ℕ) × (u < G.count) × (g u ≡ g v) × (δ u ≡ k)
-  each-distance zero v k v< l h = absurd (omega arith)
-  each-distance (suc n) v k v< l h =
+  pub each_distance : (n v k : ℕ) → v < G.count → δ v < n → k ≤ δ v → (u : ℕ) × (u < G.count) × (g u ≡ g v) × (δ u ≡ k)
+  each_distance zero v k v< l h = absurd (omega arith)
+  each_distance (suc n) v k v< l h =
       elim (eq-or-lt_of_le h) [
         | inl e ↦ (v, v<, refl, sym e)
-        | inr less ↦ (let b = before v v< (omega arith) in let r = each-distance n b.0 k b.1 (omega (arith, b.3)) (omega (arith, b.3)) in (r.0, r.1, r.2 ∙ b.2, r.3))
+        | inr less ↦ (let b = before v v< (omega arith) in let r = each_distance n b.0 k b.1 (omega (arith, b.3)) (omega (arith, b.3)) in (r.0, r.1, r.2 ∙ b.2, r.3))
       ]
 
   -- a round that finds nothing is the last of its grade
   pub quiet : (p d : ℕ) → ((u : ℕ) → u < G.count → g u ≡ p → δ u ≡ suc d → ⊥) → (v : ℕ) → v < G.count → g v ≡ p → δ v ≤ d
   quiet p d none v v< e =
-      elim (cases_lt d (δ v)) [ inr l ↦ l | inl l ↦ absurd (let r = each-distance (suc (δ v)) v (suc d) v< (omega arith) l in none r.0 r.1 (r.2 ∙ e) r.3) ]
+      elim (cases_lt d (δ v)) [ inr l ↦ l | inl l ↦ absurd (let r = each_distance (suc (δ v)) v (suc d) v< (omega arith) l in none r.0 r.1 (r.2 ∙ e) r.3) ]
 
   -- the next grade is the least priority left
   pub skip : (p p' : ℕ) → ((u : ℕ) → u < G.count → p ≤ g u → p' ≤ level G u) → (v : ℕ) → v < G.count → p ≤ g v → p' ≤ g v
   skip p p' h v v< up =
-      let r = each-distance (suc (δ v)) v 0 v< (omega arith) (omega arith) in
+      let r = each_distance (suc (δ v)) v 0 v< (omega arith) (omega arith) in
       omega (arith, h r.0 r.1 (omega (arith, r.2)), (table r.0 r.1).base r.3, r.2)
 
   -- every distance is below the count of the vertices of its grade; here only: at most the count

@@ -5,9 +5,9 @@ use Rattle.std.proofs.lemmas.Bool.Decides.{Decides-and, Decides-or}
 use Rattle.parity.specs.Game.{Game, Sound}
 use Rattle.parity.specs.Grading.{within}
 use Rattle.parity.specs.Below.{some_below}
-use Rattle.parity.proofs.Below.{some-gives, some-from}
-use Rattle.parity.proofs.Pull.{Pull, pull-map, pull-decides}
-use Rattle.parity.proofs.Size.{size, size-more, size-full}
+use Rattle.parity.proofs.Below.{some_gives, some_from}
+use Rattle.parity.proofs.Pull.{Pull, pull_map, pull_decides}
+use Rattle.parity.proofs.Size.{size, size_more, size_full}
 
 module _ (G : Game) (sound : Sound G) (R : ℕ → Bool) (p : ℕ) where
   abbrev Hit : ℕ → ℕ → Type 0
@@ -23,27 +23,27 @@ module _ (G : Game) (sound : Sound G) (R : ℕ → Bool) (p : ℕ) where
   unfolding within
   next d v v< =
       Decides-or (within G R p d v) _ (itself (within G R p d v))
-      (Decides-and (R v) _ (itself (R v)) (pull-decides G sound R (within G R p d) p In (Hit d) (λ u _. itself (R u)) (λ u _. itself (within G R p d u)) v v<))
+      (Decides-and (R v) _ (itself (R v)) (pull_decides G sound R (within G R p d) p In (Hit d) (λ u _. itself (R u)) (λ u _. itself (within G R p d u)) v v<))
 
   pub more : (d e v : ℕ) → v < G.count → d ≤ e → Hit d v → Hit e v
   more d zero v v< le h = subst (λ k. Hit k v) (omega arith) h
   more d (suc e) v v< le h =
       elim (eq-or-lt_of_le le) [ inl same ↦ subst (λ k. Hit k v) same h | inr less ↦ (next e v v<).1 (inl (more d e v v< (omega arith) h)) ]
 
-  pub in-set : (d v : ℕ) → v < G.count → Hit d v → In v
+  pub in_set : (d v : ℕ) → v < G.count → Hit d v → In v
   unfolding within
-  in-set zero v v< h = (and_parts (R v) _ h).0
-  in-set (suc d) v v< h = elim ((next d v v<).0 h) [ inl h' ↦ in-set d v v< h' | inr s ↦ s.0 ]
+  in_set zero v v< h = (and_parts (R v) _ h).0
+  in_set (suc d) v v< h = elim ((next d v v<).0 h) [ inl h' ↦ in_set d v v< h' | inr s ↦ s.0 ]
 
   abbrev Stable : ℕ → Type 0
   Stable e = (v : ℕ) → v < G.count → Hit (suc e) v → Hit e v
 
   on : (e : ℕ) → Stable e → Stable (suc e)
-  on e st v v< h = elim ((next (suc e) v v<).0 h) [ inl h' ↦ h' | inr s ↦ (next e v v<).1 (inr (s.0, pull-map G sound p In (Hit (suc e)) (Hit e) st v v< s.1)) ]
+  on e st v v< h = elim ((next (suc e) v v<).0 h) [ inl h' ↦ h' | inr s ↦ (next e v v<).1 (inr (s.0, pull_map G sound p In (Hit (suc e)) (Hit e) st v v< s.1)) ]
 
   rests : (e : ℕ) → Stable e → (d v : ℕ) → v < G.count → Hit d v → Hit e v
   rests e st zero v v< h = more 0 e v v< (omega arith) h
-  rests e st (suc d) v v< h = elim ((next d v v<).0 h) [ inl h' ↦ rests e st d v v< h' | inr s ↦ st v v< ((next e v v<).1 (inr (s.0, pull-map G sound p In (Hit d) (Hit e) (λ u u<. rests e st d u u<) v v< s.1))) ]
+  rests e st (suc d) v v< h = elim ((next d v v<).0 h) [ inl h' ↦ rests e st d v v< h' | inr s ↦ st v v< ((next e v v<).1 (inr (s.0, pull_map G sound p In (Hit d) (Hit e) (λ u u<. rests e st d u u<) v v< s.1))) ]
 
   grows : (d : ℕ) → ((e : ℕ) × (e ≤ d) × Stable e) ⊎ (d ≤ size G.count (within G R p d))
   grows zero = inr (omega arith)
@@ -53,19 +53,19 @@ module _ (G : Game) (sound : Sound G) (R : ℕ → Bool) (p : ℕ) where
       new v = within G R p (suc d) v && not (within G R p d v)
 
       step : d ≤ size G.count (within G R p d) → ((e : ℕ) × (e ≤ suc d) × Stable e) ⊎ (suc d ≤ size G.count (within G R p (suc d)))
-      step l = elim (cases_Bool (some_below G.count new)) [ inl t ↦ inr (larger (some-gives G.count new t)) | inr t ↦ inl (d, omega arith, stable t) ]
+      step l = elim (cases_Bool (some_below G.count new)) [ inl t ↦ inr (larger (some_gives G.count new t)) | inr t ↦ inl (d, omega arith, stable t) ]
         where
           larger : (k : ℕ) × (k < G.count) × (new k ≡ true) → suc d ≤ size G.count (within G R p (suc d))
           larger (k, k<, t) =
               let q = and_parts (within G R p (suc d) k) _ t in
-              omega (arith, size-more G.count (within G R p d) (within G R p (suc d)) (λ u u< h. (next d u u<).1 (inl h)) k k< (not-true _ q.1) q.0)
+              omega (arith, size_more G.count (within G R p d) (within G R p (suc d)) (λ u u< h. (next d u u<).1 (inl h)) k k< (not-true _ q.1) q.0)
 
           stable : some_below G.count new ≡ false → Stable d
-          stable t v v< h = elim (cases_Bool (within G R p d v)) [ inl e ↦ e | inr e ↦ absurd (both_ways _ t (some-from G.count new v v< (rw (h, e) refl))) ]
+          stable t v v< h = elim (cases_Bool (within G R p d v)) [ inl e ↦ e | inr e ↦ absurd (both_ways _ t (some_from G.count new v v< (rw (h, e) refl))) ]
 
   pub saturated : (d v : ℕ) → v < G.count → Hit d v → Hit G.count v
   saturated d v v< h =
       elim (grows G.count) [
         | inl s ↦ more s.0 G.count v v< s.1 (rests s.0 s.2 d v v< h)
-        | inr l ↦ size-full G.count (within G R p G.count) l v v<
+        | inr l ↦ size_full G.count (within G R p G.count) l v v<
       ]

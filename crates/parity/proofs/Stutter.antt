@@ -4,7 +4,7 @@ use Rattle.std.proofs.lemmas.Bool.{cases_lt}
 use Rattle.parity.specs.Game.{Game, Sound, favoured}
 use Rattle.parity.specs.Player.{other}
 use Rattle.parity.specs.Play.{Wins}
-use Rattle.parity.proofs.Players.{which, apart, same-other}
+use Rattle.parity.proofs.Players.{which, apart, same_other}
 use Rattle.parity.specs.Certificate.{Certificate, Serves}
 use Rattle.parity.specs.declared.player.Player.{Player}
 
@@ -40,10 +40,10 @@ module _ (G : Game) (sound : Sound G) (g δ m : ℕ → ℕ) (table : Certificat
       drop not_own =
           let less : g (G.successor u s.0) < g u = subst (λ w. g w < g u) s.2 h in
           let o = (table u u<).lower s.0 s.1 less in
-          same-other _ _ (ap (λ w. other (favoured G (g w))) s.2 ∙ sym o ∙ not_own)
+          same_other _ _ (ap (λ w. other (favoured G (g w))) s.2 ∙ sym o ∙ not_own)
 
   nearer : (u u' : ℕ) → u < G.count → Step u u' → favoured G (g u) ≡ x → 0 < δ u → g u ≤ g u' → (g u' ≡ g u) × (δ u' < δ u)
-  nearer u u' u< s f pos up = elim (which (G.owner u) x) [ inl own ↦ by_move own | inr not_own ↦ by-any not_own ]
+  nearer u u' u< s f pos up = elim (which (G.owner u) x) [ inl own ↦ by_move own | inr not_own ↦ by_any not_own ]
     where
       Goal : ℕ → Type 0
       Goal w = (g w ≡ g u) × (δ w < δ u)
@@ -51,16 +51,16 @@ module _ (G : Game) (sound : Sound G) (g δ m : ℕ → ℕ) (table : Certificat
       by_move : G.owner u ≡ x → (g u' ≡ g u) × (δ u' < δ u)
       by_move own = subst Goal (sym (s.3 own)) ((serves u u<).nears (own ∙ sym f) pos)
 
-      by-any : G.owner u ≡ other x → (g u' ≡ g u) × (δ u' < δ u)
-      by-any not_own =
+      by_any : G.owner u ≡ other x → (g u' ≡ g u) × (δ u' < δ u)
+      by_any not_own =
           let up' : g u ≤ g (G.successor u s.0) = subst (λ w. g u ≤ g w) s.2 up in
           subst Goal (sym s.2) ((table u u<).theirs (not_own ∙ sym (ap other f)) pos s.0 s.1 up')
 
   abbrev Met : ℕ → Type 0
   Met b = (k : ℕ) × (G.priority (π k) ≤ b) × (favoured G (G.priority (π k)) ≡ x)
 
-  met-up : {a b : ℕ} → a ≤ b → Met a → Met b
-  met-up h t = let e = t.1 in (t.0, omega arith, t.2)
+  met_up : {a b : ℕ} → a ≤ b → Met a → Met b
+  met_up h t = let e = t.1 in (t.0, omega arith, t.2)
 
   -- below the grade a; below it and the distance d; below these and the wait w
   abbrev Reaches : ℕ → Type 0
@@ -87,18 +87,18 @@ module _ (G : Game) (sound : Sound G) (g δ m : ℕ → ℕ) (table : Certificat
           stays e l =
               let eg = ap g e in
               let eδ = ap δ e in
-              met-up (omega arith) (later (suc j) (omega arith) (omega arith) (omega arith) (ap (favoured G) eg ∙ f))
+              met_up (omega arith) (later (suc j) (omega arith) (omega arith) (omega arith) (ap (favoured G) eg ∙ f))
 
           steps : Step (π j) (π (suc j)) → Met (g (π j))
-          steps s = elim (cases_lt (g (π (suc j))) (g (π j))) [ inl less ↦ down less | inr up ↦ same-grade up ]
+          steps s = elim (cases_lt (g (π (suc j))) (g (π j))) [ inl less ↦ down less | inr up ↦ same_grade up ]
             where
               down : g (π (suc j)) < g (π j) → Met (g (π j))
-              down less = met-up (omega arith) (smaller (suc j) (omega arith) (falls (π j) (π (suc j)) (inside j) s less))
+              down less = met_up (omega arith) (smaller (suc j) (omega arith) (falls (π j) (π (suc j)) (inside j) s less))
 
-              same-grade : g (π j) ≤ g (π (suc j)) → Met (g (π j))
-              same-grade up =
+              same_grade : g (π j) ≤ g (π (suc j)) → Met (g (π j))
+              same_grade up =
                   let n = nearer (π j) (π (suc j)) (inside j) s f pos up in
-                  met-up (omega arith) (again (suc j) (omega arith) (omega arith) (ap (favoured G) n.0 ∙ f))
+                  met_up (omega arith) (again (suc j) (omega arith) (omega arith) (ap (favoured G) n.0 ∙ f))
 
   reach₃ : (a d : ℕ) → Reaches a → Reaches₂ (suc a) d → (w : ℕ) → Reaches₃ (suc a) (suc d) w
   reach₃ a d smaller again zero = λ j l _ _ _. absurd (omega arith)

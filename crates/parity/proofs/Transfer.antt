@@ -8,7 +8,7 @@ use Rattle.parity.specs.Move.{move}
 use Rattle.parity.specs.Determinacy.{reported}
 use Rattle.parity.specs.declared.player.Player.{Player}
 use Rattle.parity.proofs.Players.{which, apart}
-use Rattle.parity.proofs.Determined.{reported-wins, move-legal}
+use Rattle.parity.proofs.Determined.{reported_wins, move_legal}
 use Rattle.parity.proofs.Duel.{only_one}
 
 -- Vertex u of H stands for vertex f u of G, and σ says whose part a player of G has in H. Owners correspond where there is a choice,
@@ -42,8 +42,8 @@ module _ (G H : Game) (σ : Player → Player) (f : ℕ → ℕ) (shift top : �
           | inr t ↦ absurd (omega (arith, t.0))
         ]
 
-    wins-over : Wins H (σ x) π
-    wins-over k against = elim (s.levels (π k) (inside k)) [ inl t ↦ lower t.0 t.1 | inr t ↦ upper t.1 ]
+    wins_over : Wins H (σ x) π
+    wins_over k against = elim (s.levels (π k) (inside k)) [ inl t ↦ lower t.0 t.1 | inr t ↦ upper t.1 ]
       where
         turned : (a : ℕ) → favoured H (a + shift) ≡ other (σ x) → favoured G a ≡ other x
         turned a e = elim (which (favoured G a) x) [ inr o ↦ o | inl o ↦ absurd (apart (σ x) (sym (s.favours a ∙ ap σ o) ∙ e)) ]
@@ -61,8 +61,8 @@ module _ (G H : Game) (σ : Player → Player) (f : ℕ → ℕ) (shift top : �
                   | inr o ↦ (let g = lowered (G.priority (f (π 0))) (omega arith) (win 0 o) in (g.0, omega (arith, g.1), g.2))
                 ]
 
-  pub shifted-carries : Carries G H σ f v
-  shifted-carries = wins-over
+  pub shifted_carries : Carries G H σ f v
+  shifted_carries = wins_over
 
 module _ (G H : Game) (sG : Sound G) (sH : Sound H) (σ : Player → Player) (f : ℕ → ℕ) (there : ℕ → ℕ → ℕ) (alike : Alike G H σ f there)
     (v : ℕ) (v< : v < H.count) (carries : Carries G H σ f v) where
@@ -81,10 +81,10 @@ module _ (G H : Game) (sG : Sound G) (sH : Sound H) (σ : Player → Player) (f 
       goes = λ i. (let s = play.goes i in let t = alike.forth (π i) s.0 (inside i) s.1 in (t.0, t.1, ap f s.2 ∙ t.2));
     }
 
-    image-follows : (x : Player) → Follows H (σ x) plan π → Follows G x (reported G) (λ i. f (π i))
+    image_follows : (x : Player) → Follows H (σ x) plan π → Follows G x (reported G) (λ i. f (π i))
     unfolding plan
-    image-follows x follows i own =
-        let legal = move-legal G sG (f (π i)) (alike.inside (π i) (inside i)) in
+    image_follows x follows i own =
+        let legal = move_legal G sG (f (π i)) (alike.inside (π i) (inside i)) in
         elim (alike.owners (π i) (inside i)) [
           | inl o ↦ ap f (follows i (o ∙ ap σ own)) ∙ (alike.back (π i) (move G (f (π i))) (inside i) legal).1
           | inr d ↦ (let s = image.goes i in let e : s.0 ≡ move G (f (π i)) = omega (arith, s.1, d, legal) in s.2 ∙ ap (G.successor (f (π i))) e)
@@ -93,12 +93,12 @@ module _ (G H : Game) (sG : Sound G) (sH : Sound H) (σ : Player → Player) (f 
   abbrev x : Player
   x = winner G (f v)
 
-  taken-over : Winning H (σ x) plan v
+  taken_over : Winning H (σ x) plan v
   unfolding plan
-  taken-over = record {
-    legal = λ past u u< own. (alike.back u (move G (f u)) u< (move-legal G sG (f u) (alike.inside u u<))).0;
-    wins = λ π play follows. carries x π play.starts (inside π play) ((reported-wins G sG (f v) (alike.inside v v<)).wins (λ i. f (π i)) (image π play) (image-follows π play x follows));
+  taken_over = record {
+    legal = λ past u u< own. (alike.back u (move G (f u)) u< (move_legal G sG (f u) (alike.inside u u<))).0;
+    wins = λ π play follows. carries x π play.starts (inside π play) ((reported_wins G sG (f v) (alike.inside v v<)).wins (λ i. f (π i)) (image π play) (image_follows π play x follows));
   }
 
   pub transfer : winner H v ≡ σ (winner G (f v))
-  transfer = elim (which (winner H v) (σ x)) [ inl e ↦ e | inr e ↦ absurd (only_one H sH (σ x) plan (reported H) v v< taken-over (subst (λ y. Winning H y (reported H) v) e (reported-wins H sH v v<))) ]
+  transfer = elim (which (winner H v) (σ x)) [ inl e ↦ e | inr e ↦ absurd (only_one H sH (σ x) plan (reported H) v v< taken_over (subst (λ y. Winning H y (reported H) v) e (reported_wins H sH v v<))) ]

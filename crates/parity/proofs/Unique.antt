@@ -7,9 +7,9 @@ use Rattle.parity.specs.Player.{other, same}
 use Rattle.parity.specs.Below.{least}
 use Rattle.parity.specs.Grading.{level, within, rest, grade, distance}
 use Rattle.parity.proofs.Players.{which, apart}
-use Rattle.parity.proofs.Below.{least-is, no-from}
+use Rattle.parity.proofs.Below.{least_is, no_from}
 use Rattle.parity.specs.Certificate.{Fits, Certificate}
-use Rattle.parity.proofs.Pull.{Pull, pull-decides}
+use Rattle.parity.proofs.Pull.{Pull, pull_decides}
 
 module _ (G : Game) (sound : Sound G) (g δ : ℕ → ℕ) (table : Certificate G g δ) where
   abbrev pub Near : ℕ → ℕ → ℕ → Type 0
@@ -21,7 +21,7 @@ module _ (G : Game) (sound : Sound G) (g δ : ℕ → ℕ) (table : Certificate 
       let l = near.1 in
       let loc = table v v< in
       elim (eq-or-lt_of_le up) [
-        | inl same ↦ (let m = loc.mine-least (own ∙ ap (favoured G) same) i i< (e ∙ same) in (sym same, omega arith))
+        | inl same ↦ (let m = loc.mine_least (own ∙ ap (favoured G) same) i i< (e ∙ same) in (sym same, omega arith))
         | inr less ↦ (let o = loc.lower i i< (omega arith) in absurd (apart (favoured G p) (sym own ∙ o ∙ ap (λ q. other (favoured G q)) e)))
       ]
   pulled p d v v< up (inr (own, all)) =
@@ -39,7 +39,7 @@ module _ (G : Game) (sound : Sound G) (g δ : ℕ → ℕ) (table : Certificate 
         where
           on : 0 < δ v → Near p (suc d) v
           on pos =
-              let k = loc.theirs-least (own ∙ ap (λ q. other (favoured G q)) same) pos in
+              let k = loc.theirs_least (own ∙ ap (λ q. other (favoured G q)) same) pos in
               let e = k.2 in
               let l = k.3 in
               elim (all k.0 k.1) [ inl out ↦ absurd (out (omega arith)) | inr near ↦ (sym same, omega (arith, near.1)) ]
@@ -61,9 +61,9 @@ module _ (G : Game) (sound : Sound G) (g δ : ℕ → ℕ) (table : Certificate 
           ]
 
   module _ (R : ℕ → Bool) (p : ℕ) (in_r : (v : ℕ) → v < G.count → Decides (R v) (p ≤ g v)) where
-    pub within-is : (d v : ℕ) → v < G.count → Decides (within G R p d v) (Near p d v)
+    pub within_is : (d v : ℕ) → v < G.count → Decides (within G R p d v) (Near p d v)
     unfolding within
-    within-is zero v v< = Decides-like _ there back (Decides-and (R v) (eqb (level G v) p) (in_r v v<) (Decides-eqb (level G v) p))
+    within_is zero v v< = Decides-like _ there back (Decides-and (R v) (eqb (level G v) p) (in_r v v<) (Decides-eqb (level G v) p))
       where
         there : (p ≤ g v) × (level G v ≡ p) → Near p 0 v
         there (up, e) =
@@ -74,9 +74,9 @@ module _ (G : Game) (sound : Sound G) (g δ : ℕ → ℕ) (table : Certificate 
 
         back : Near p 0 v → (p ≤ g v) × (level G v ≡ p)
         back (e, z) = (omega arith, sym ((table v v<).base (omega arith)) ∙ e)
-    within-is (suc d) v v< =
+    within_is (suc d) v v< =
         Decides-like _ there back
-        (Decides-or (within G R p d v) _ (within-is d v v<) (Decides-and (R v) _ (in_r v v<) (pull-decides G sound R (within G R p d) p (λ u. p ≤ g u) (Near p d) in_r (within-is d) v v<)))
+        (Decides-or (within G R p d v) _ (within_is d v v<) (Decides-and (R v) _ (in_r v v<) (pull_decides G sound R (within G R p d) p (λ u. p ≤ g u) (Near p d) in_r (within_is d) v v<)))
       where
         there : Near p d v ⊎ ((p ≤ g v) × Pull G p (λ u. p ≤ g u) (Near p d) v) → Near p (suc d) v
         there (inl (e, l)) = (e, omega arith)
@@ -85,12 +85,12 @@ module _ (G : Game) (sound : Sound G) (g δ : ℕ → ℕ) (table : Certificate 
         back : Near p (suc d) v → Near p d v ⊎ ((p ≤ g v) × Pull G p (λ u. p ≤ g u) (Near p d) v)
         back (e, l) = elim (cases_lt d (δ v)) [ inl far ↦ inr (omega arith, pulls p d v v< e (omega arith)) | inr near ↦ inl (e, near) ]
 
-  pub rest-is : (p v : ℕ) → v < G.count → Decides (rest G p v) (p ≤ g v)
+  pub rest_is : (p v : ℕ) → v < G.count → Decides (rest G p v) (p ≤ g v)
   unfolding rest
-  rest-is zero v v< = (λ _. omega arith, λ _. refl)
-  rest-is (suc p) v v< =
+  rest_is zero v v< = (λ _. omega arith, λ _. refl)
+  rest_is (suc p) v v< =
       Decides-like _ there back
-      (Decides-and (rest G p v) _ (rest-is p v v<) (Decides-not _ (within-is (rest G p) p (rest-is p) G.count v v<)))
+      (Decides-and (rest G p v) _ (rest_is p v v<) (Decides-not _ (within_is (rest G p) p (rest_is p) G.count v v<)))
     where
       there : (p ≤ g v) × (Near p G.count v → ⊥) → suc p ≤ g v
       there (up, out) = elim (eq-or-lt_of_le up) [ inl e ↦ absurd (out (sym e, (let s = (table v v<).short in omega arith))) | inr less ↦ less ]
@@ -98,19 +98,19 @@ module _ (G : Game) (sound : Sound G) (g δ : ℕ → ℕ) (table : Certificate 
       back : suc p ≤ g v → (p ≤ g v) × (Near p G.count v → ⊥)
       back h = (omega arith, λ n. omega (arith, n.0))
 
-  pub grade-is : (v : ℕ) → v < G.count → grade G v ≡ g v
+  pub grade_is : (v : ℕ) → v < G.count → grade G v ≡ g v
   unfolding grade
-  grade-is v v< =
+  grade_is v v< =
       let loc = table v v< in
-      least-is (level G v) _ (g v) loc.low
-      (λ _. (within-is (rest G (g v)) (g v) (rest-is (g v)) G.count v v<).1 (refl, (let s = loc.short in omega arith)))
-      (λ j l. no-from _ (within-is (rest G j) j (rest-is j) G.count v v<) (λ n. omega (arith, n.0)))
+      least_is (level G v) _ (g v) loc.low
+      (λ _. (within_is (rest G (g v)) (g v) (rest_is (g v)) G.count v v<).1 (refl, (let s = loc.short in omega arith)))
+      (λ j l. no_from _ (within_is (rest G j) j (rest_is j) G.count v v<) (λ n. omega (arith, n.0)))
 
   pub distance_is : (v : ℕ) → v < G.count → distance G v ≡ δ v
   unfolding distance
   distance_is v v< =
       let s = (table v v<).short in
-      ap (λ q. least G.count (λ d. within G (rest G q) q d v)) (grade-is v v<)
-      ∙ least-is G.count _ (δ v) (omega arith)
-      (λ _. (within-is (rest G (g v)) (g v) (rest-is (g v)) (δ v) v v<).1 (refl, omega arith))
-      (λ j l. no-from _ (within-is (rest G (g v)) (g v) (rest-is (g v)) j v v<) (λ n. omega (arith, n.1)))
+      ap (λ q. least G.count (λ d. within G (rest G q) q d v)) (grade_is v v<)
+      ∙ least_is G.count _ (δ v) (omega arith)
+      (λ _. (within_is (rest G (g v)) (g v) (rest_is (g v)) (δ v) v v<).1 (refl, omega arith))
+      (λ j l. no_from _ (within_is (rest G (g v)) (g v) (rest_is (g v)) j v v<) (λ n. omega (arith, n.1)))

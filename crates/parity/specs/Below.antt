@@ -7,9 +7,9 @@ some_below zero f = false
 some_below (suc n) f = some_below n f || f n
 
 -- f holds of all numbers below n
-unfoldable pub all-below : ℕ → (ℕ → Bool) → Bool
-all-below zero f = true
-all-below (suc n) f = all-below n f && f n
+unfoldable pub all_below : ℕ → (ℕ → Bool) → Bool
+all_below zero f = true
+all_below (suc n) f = all_below n f && f n
 
 -- the least number below n of which f holds, and n if there is none
 unfoldable pub least : ℕ → (ℕ → Bool) → ℕ

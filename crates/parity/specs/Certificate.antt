@@ -16,10 +16,10 @@ pub record Fits (G : Game) (g δ : ℕ → ℕ) (v : ℕ) : Type 0 where
   pub lower : (i : ℕ) → i < G.degree v → g (G.successor v i) < g v → G.owner v ≡ other (favoured G (g (G.successor v i)))
   -- an owner whom the grade favours: some move comes nearer, none by more than 1
   pub mine : G.owner v ≡ favoured G (g v) → 0 < δ v → (i : ℕ) × (i < G.degree v) × (g (G.successor v i) ≡ g v) × (δ (G.successor v i) < δ v)
-  pub mine-least : G.owner v ≡ favoured G (g v) → (i : ℕ) → i < G.degree v → g (G.successor v i) ≡ g v → δ v ≤ suc (δ (G.successor v i))
+  pub mine_least : G.owner v ≡ favoured G (g v) → (i : ℕ) → i < G.degree v → g (G.successor v i) ≡ g v → δ v ≤ suc (δ (G.successor v i))
   -- the other owner: each move that does not lose grade comes nearer, some by just 1
   pub theirs : G.owner v ≡ other (favoured G (g v)) → 0 < δ v → (i : ℕ) → i < G.degree v → g v ≤ g (G.successor v i) → (g (G.successor v i) ≡ g v) × (δ (G.successor v i) < δ v)
-  pub theirs-least : G.owner v ≡ other (favoured G (g v)) → 0 < δ v → (i : ℕ) × (i < G.degree v) × (g (G.successor v i) ≡ g v) × (δ v ≤ suc (δ (G.successor v i)))
+  pub theirs_least : G.owner v ≡ other (favoured G (g v)) → 0 < δ v → (i : ℕ) × (i < G.degree v) × (g (G.successor v i) ≡ g v) × (δ v ≤ suc (δ (G.successor v i)))
 
 abbrev pub Certificate : Game → (ℕ → ℕ) → (ℕ → ℕ) → Type 0
 Certificate G g δ = (v : ℕ) → v < G.count → Fits G g δ v

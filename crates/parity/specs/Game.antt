@@ -7,7 +7,7 @@ use Rattle.parity.specs.declared.player.Player.{Player}
 -- degree says: successor v i is where the move at position i leads.
 pub record Game : Type 0 where
   pub count : ℕ
-  pub even-side : Player
+  pub even_side : Player
   pub owner : ℕ → Player
   pub priority : ℕ → ℕ
   pub degree : ℕ → ℕ
@@ -20,4 +20,4 @@ pub record Sound (G : Game) : Type 0 where
 
 -- an even priority favours the even side, an odd one the other player
 unfoldable pub favoured : Game → ℕ → Player
-favoured G p = cond (p % 2 == 0) G.even-side (other G.even-side)
+favoured G p = cond (p % 2 == 0) G.even_side (other G.even_side)

@@ -1,7 +1,7 @@
 -- Grade, distance and winner of each vertex: rounds of attraction, by rising priority.
 use Rattle.std.specs.Prelude.{ℕ, zero, suc, Bool, true, cond, not, ◌&&◌, ◌||◌, ◌==◌}
 use Rattle.parity.specs.Player.{same}
-use Rattle.parity.specs.Below.{some_below, all-below, least}
+use Rattle.parity.specs.Below.{some_below, all_below, least}
 use Rattle.parity.specs.Game.{Game, favoured}
 use Rattle.parity.specs.declared.player.Player.{Player}
 
@@ -17,7 +17,7 @@ within G R p (suc d) v =
     within G R p d v
     || (R v && cond (same (G.owner v) (favoured G p))
     (some_below (G.degree v) (λ i. within G R p d (G.successor v i)))
-    (all-below (G.degree v) (λ i. not (R (G.successor v i)) || within G R p d (G.successor v i))))
+    (all_below (G.degree v) (λ i. not (R (G.successor v i)) || within G R p d (G.successor v i))))
 
 -- R(p): all vertices at first; R(p + 1) is R(p) without those that have a distance to p. No distance passes the count.
 unfoldable pub rest : Game → ℕ → ℕ → Bool

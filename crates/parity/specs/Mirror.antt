@@ -10,7 +10,7 @@ use Rattle.parity.specs.declared.player.Player.TheVariants.{Zero}
 abbrev pub mirror : Game → Game
 mirror G = record {
   count = G.count;
-  even-side = other G.even-side;
+  even_side = other G.even_side;
   owner = λ v. cond (nat_lt v G.count) (other (G.owner v)) Zero;
   priority = G.priority;
   degree = G.degree;

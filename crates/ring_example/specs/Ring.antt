@@ -9,10 +9,10 @@ abbrev pub next : ℕ → ℕ → ℕ
 next n v = cond (nat_lt (v + 1) n) (v + 1) 0
 
 -- odd stations belong to player 1, who is also the even side
-abbrev pub ring-game : ℕ → Game
-ring-game n = record {
+abbrev pub ring_game : ℕ → Game
+ring_game n = record {
   count = n;
-  even-side = One;
+  even_side = One;
   owner = λ v. cond (nat_lt v n && v % 2 == 1) One Zero;
   priority = λ v. cond (nat_lt v n) (v % 7) 0;
   degree = λ v. cond (nat_lt v n) 2 0;

@@ -3,7 +3,7 @@ mod ring;
 
 ghost use Rattle.std.specs.Prelude.{◌≡◌};
 ghost use Rattle.game.specs.Outcomes.{solved};
-ghost use Rattle.ring_example.specs.Ring.{ring-game};
+ghost use Rattle.ring_example.specs.Ring.{ring_game};
 
 use game::{Outcome, solve};
 use refusal::Refusal;
@@ -11,7 +11,7 @@ pub use ring::{Ring, Station};
 
 // Who wins at each station.
 pub fn solve_ring(ring: &Ring, out: &mut [Outcome]) -> Result<(), Refusal>
-    ensures { (result, out.new) ≡ solved (ring-game ring.now.stations) out.old }
+    ensures { (result, out.new) ≡ solved (ring_game ring.now.stations) out.old }
 {
     solve(ring, out)
 }

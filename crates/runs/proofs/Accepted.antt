@@ -2,38 +2,38 @@
 use Rattle.std.proofs.Common.{◌≡◌, ℕ, ◌<◌, List, sym, ◌∙◌, arith}
 use Rattle.parity.specs.Grading.{winner}
 use Rattle.parity.specs.declared.player.Player.TheVariants.{Zero}
-use Rattle.draft.specs.Automaton.{Automaton, state-count}
+use Rattle.draft.specs.Automaton.{Automaton, state_count}
 use Rattle.runs.specs.Run.{Accepts}
 use Rattle.runs.specs.Word.{letter, Readable}
-use Rattle.runs.specs.WordGame.{state-vertex, state-at, word-moves}
-use Rattle.runs.specs.Accepting.{word-winner, Accepting}
+use Rattle.runs.specs.WordGame.{state_vertex, state_at, word_moves}
+use Rattle.runs.specs.Accepting.{word_winner, Accepting}
 use Rattle.runs.proofs.Folds.{fold}
 use Rattle.runs.proofs.Formed.{Formed, formed}
-use Rattle.runs.proofs.Insides.{inside-winner}
-use Rattle.runs.proofs.RunWins.{run-wins}
-use Rattle.runs.proofs.WinRuns.{win-runs}
-use Rattle.runs.proofs.WordGames.{state-in, word_sound, st, nd, word-arena}
+use Rattle.runs.proofs.Insides.{inside_winner}
+use Rattle.runs.proofs.RunWins.{run_wins}
+use Rattle.runs.proofs.WinRuns.{win_runs}
+use Rattle.runs.proofs.WordGames.{state_in, word_sound, st, nd, word_arena}
 
 -- a state at step 0 has its own number
-pub start_is : (s q : ℕ) → state-vertex s 0 q ≡ q
+pub start_is : (s q : ℕ) → state_vertex s 0 q ≡ q
 start_is s q = omega arith
 
-module _ (a : Automaton) (formed : Formed a) (prefix period : List ℕ) (readable : Readable a.letters prefix period) (q : ℕ) (q< : q < state-count a) where
-  pub start-in : state-at a prefix period 0 q < (word-moves a prefix period).count
-  start-in = state-in a formed prefix period readable 0 q (let h = readable.some in omega arith) q<
+module _ (a : Automaton) (formed : Formed a) (prefix period : List ℕ) (readable : Readable a.letters prefix period) (q : ℕ) (q< : q < state_count a) where
+  pub start_in : state_at a prefix period 0 q < (word_moves a prefix period).count
+  start_in = state_in a formed prefix period readable 0 q (let h = readable.some in omega arith) q<
 
-  pub same-winner : word-winner a prefix period q ≡ winner (word-moves a prefix period) (state-at a prefix period 0 q)
-  same-winner = inside-winner (word-moves a prefix period) (word_sound a formed prefix period readable) (state-at a prefix period 0 q) start-in
+  pub same_winner : word_winner a prefix period q ≡ winner (word_moves a prefix period) (state_at a prefix period 0 q)
+  same_winner = inside_winner (word_moves a prefix period) (word_sound a formed prefix period readable) (state_at a prefix period 0 q) start_in
 
-  pub accepted-wins : Accepts a (letter prefix period) q → word-winner a prefix period q ≡ Zero
+  pub accepted_wins : Accepts a (letter prefix period) q → word_winner a prefix period q ≡ Zero
   unfolding fold
-  accepted-wins acc =
-      same-winner ∙ run-wins (word-moves a prefix period) a (letter prefix period) (st a formed prefix period readable) (nd a formed prefix period readable) (word-arena a formed prefix period readable) q q< acc
+  accepted_wins acc =
+      same_winner ∙ run_wins (word_moves a prefix period) a (letter prefix period) (st a formed prefix period readable) (nd a formed prefix period readable) (word_arena a formed prefix period readable) q q< acc
 
-  pub won-accepts : word-winner a prefix period q ≡ Zero → Accepts a (letter prefix period) q
+  pub won_accepts : word_winner a prefix period q ≡ Zero → Accepts a (letter prefix period) q
   unfolding fold
-  won-accepts win =
-      win-runs (word-moves a prefix period) a (letter prefix period) (st a formed prefix period readable) (nd a formed prefix period readable) (word-arena a formed prefix period readable) q q< (sym same-winner ∙ win)
+  won_accepts win =
+      win_runs (word_moves a prefix period) a (letter prefix period) (st a formed prefix period readable) (nd a formed prefix period readable) (word_arena a formed prefix period readable) q q< (sym same_winner ∙ win)
 
 pub accepting : Accepting
-accepting a w c prefix period r q q< = (accepted-wins a (formed a w c) prefix period r q q<, won-accepts a (formed a w c) prefix period r q q<)
+accepting a w c prefix period r q q< = (accepted_wins a (formed a w c) prefix period r q q<, won_accepts a (formed a w c) prefix period r q q<)

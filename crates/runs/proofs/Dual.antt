@@ -2,61 +2,61 @@
 use Rattle.std.proofs.Common.{◌≡◌, ℕ, ◌+◌, ◌<◌, true, map, get_or, is_some, None, sym, ap, ◌∙◌, subst, inl, inr, arith}
 use Rattle.std.proofs.lemmas.Bool.{cases_lt}
 use Rattle.std.proofs.lemmas.List.{length-map, get_or-map, get_or_past}
-use Rattle.parity.specs.Below.{all-below}
+use Rattle.parity.specs.Below.{all_below}
 use Rattle.draft.specs.declared.parts.Node.{Node}
 use Rattle.draft.specs.declared.parts.Node.TheVariants.{Leaf, Either, Both}
-use Rattle.draft.specs.Automaton.{Automaton, blank, state-count, node-count, priority-of, rule-of, node_of, is-ruled, is-complete}
+use Rattle.draft.specs.Automaton.{Automaton, blank, state_count, node_count, priority_of, rule_of, node_of, is_ruled, is_complete}
 use Rattle.draft.specs.Calls.{dual, raised, turned}
-use Rattle.draft.specs.WellFormed.{Well-formed, Fits}
-use Rattle.runs.specs.Run.{node-or-0, rule-node}
+use Rattle.draft.specs.WellFormed.{WellFormed, Fits}
+use Rattle.runs.specs.Run.{node_or_0, rule_node}
 use Rattle.runs.proofs.Formed.{Formed, formed}
 
 module _ (a : Automaton) where
-  pub states-same : state-count (turned a) ≡ state-count a
-  states-same = length-map a.states raised
+  pub states_same : state_count (turned a) ≡ state_count a
+  states_same = length-map a.states raised
 
-  pub nodes-same : node-count (turned a) ≡ node-count a
-  nodes-same = length-map a.nodes dual
+  pub nodes_same : node_count (turned a) ≡ node_count a
+  nodes_same = length-map a.nodes dual
 
-  state-raised : (q : ℕ) → q < state-count a → get_or (map raised a.states) q blank ≡ raised (get_or a.states q blank)
-  state-raised q l = get_or-map raised a.states q blank blank l
+  state_raised : (q : ℕ) → q < state_count a → get_or (map raised a.states) q blank ≡ raised (get_or a.states q blank)
+  state_raised q l = get_or-map raised a.states q blank blank l
 
-  pub priority-raised : (q : ℕ) → q < state-count a → priority-of (turned a) q ≡ priority-of a q + 1
-  priority-raised q q< = ap (λ s. s.priority) (state-raised q q<)
+  pub priority_raised : (q : ℕ) → q < state_count a → priority_of (turned a) q ≡ priority_of a q + 1
+  priority_raised q q< = ap (λ s. s.priority) (state_raised q q<)
 
-  pub rule-same : (q letter : ℕ) → rule-of (turned a) q letter ≡ rule-of a q letter
-  rule-same q letter =
-      elim (cases_lt q (state-count a)) [
-        | inl h ↦ ap (λ s. get_or s.rules letter None) (state-raised q h)
-        | inr h ↦ (let e = states-same in ap (λ s. get_or s.rules letter None) (get_or_past (map raised a.states) q blank (omega arith) ∙ sym (get_or_past a.states q blank h)))
+  pub rule_same : (q letter : ℕ) → rule_of (turned a) q letter ≡ rule_of a q letter
+  rule_same q letter =
+      elim (cases_lt q (state_count a)) [
+        | inl h ↦ ap (λ s. get_or s.rules letter None) (state_raised q h)
+        | inr h ↦ (let e = states_same in ap (λ s. get_or s.rules letter None) (get_or_past (map raised a.states) q blank (omega arith) ∙ sym (get_or_past a.states q blank h)))
       ]
 
-  pub rule-node-same : (q letter : ℕ) → rule-node (turned a) q letter ≡ rule-node a q letter
-  rule-node-same q letter = ap node-or-0 (rule-same q letter)
+  pub rule_node_same : (q letter : ℕ) → rule_node (turned a) q letter ≡ rule_node a q letter
+  rule_node_same q letter = ap node_or_0 (rule_same q letter)
 
-  pub node-dual : (x : ℕ) → node_of (turned a) x ≡ dual (node_of a x)
-  node-dual x =
-      elim (cases_lt x (node-count a)) [
+  pub node_dual : (x : ℕ) → node_of (turned a) x ≡ dual (node_of a x)
+  node_dual x =
+      elim (cases_lt x (node_count a)) [
         | inl l ↦ get_or-map dual a.nodes x (Leaf 0) (Leaf 0) l
-        | inr l ↦ (let e = nodes-same in get_or_past (map dual a.nodes) x (Leaf 0) (omega arith) ∙ sym (ap dual (get_or_past a.nodes x (Leaf 0) l)))
+        | inr l ↦ (let e = nodes_same in get_or_past (map dual a.nodes) x (Leaf 0) (omega arith) ∙ sym (ap dual (get_or_past a.nodes x (Leaf 0) l)))
       ]
 
-  pub complete-same : is-complete (turned a) ≡ is-complete a
-  unfolding is-complete is-ruled
-  complete-same = λ i. all-below (states-same i) (λ q. all-below a.letters (λ letter. is_some (rule-same q letter i)))
+  pub complete_same : is_complete (turned a) ≡ is_complete a
+  unfolding is_complete is_ruled
+  complete_same = λ i. all_below (states_same i) (λ q. all_below a.letters (λ letter. is_some (rule_same q letter i)))
 
-  dual-fits : (s x : ℕ) (n : Node) → Fits s x n → Fits s x (dual n)
-  dual-fits s x (Leaf q) h = h
-  dual-fits s x (Either l r) h = h
-  dual-fits s x (Both l r) h = h
+  dual_fits : (s x : ℕ) (n : Node) → Fits s x n → Fits s x (dual n)
+  dual_fits s x (Leaf q) h = h
+  dual_fits s x (Either l r) h = h
+  dual_fits s x (Both l r) h = h
 
-  pub turned-formed : Well-formed a → is-complete a ≡ true → Formed (turned a)
-  turned-formed w c =
+  pub turned_formed : WellFormed a → is_complete a ≡ true → Formed (turned a)
+  turned_formed w c =
       let f = formed a w c in
       record {
-        named = λ x x<. subst (λ s. Fits s x (node_of (turned a) x)) (sym states-same)
-            (subst (Fits (state-count a) x) (sym (node-dual x)) (dual-fits (state-count a) x (node_of a x) (f.named x (subst (λ n. x < n) nodes-same x<))));
-        ruled = λ q l q< l<. subst (λ n. rule-node (turned a) q l < n) (sym nodes-same)
-            (subst (λ x. x < node-count a) (sym (rule-node-same q l)) (f.ruled q l (subst (λ n. q < n) states-same q<) l<));
-        low = λ q q<. (let h = subst (λ n. q < n) states-same q< in omega (arith, priority-raised q h, w.low q h));
+        named = λ x x<. subst (λ s. Fits s x (node_of (turned a) x)) (sym states_same)
+            (subst (Fits (state_count a) x) (sym (node_dual x)) (dual_fits (state_count a) x (node_of a x) (f.named x (subst (λ n. x < n) nodes_same x<))));
+        ruled = λ q l q< l<. subst (λ n. rule_node (turned a) q l < n) (sym nodes_same)
+            (subst (λ x. x < node_count a) (sym (rule_node_same q l)) (f.ruled q l (subst (λ n. q < n) states_same q<) l<));
+        low = λ q q<. (let h = subst (λ n. q < n) states_same q< in omega (arith, priority_raised q h, w.low q h));
       }

@@ -4,13 +4,13 @@ use native.Mathlib.Nat.{mod-add-mod, mod_self, zero-mod}
 use Rattle.std.proofs.lemmas.Bool.{cases_lt, cases_eq, lt-ltb, le-ltb, eq-eqb, ne_eqb, cond-true, cond-false}
 use Rattle.std.proofs.lemmas.Nat.{mod_below}
 use Rattle.runs.specs.Word.{letter, Readable}
-use Rattle.runs.specs.WordGame.{steps, next-step}
+use Rattle.runs.specs.WordGame.{steps, next_step}
 
 module _ (prefix period : List ℕ) where
   -- the step that stands for step i of the unending word
   unfoldable pub fold : ℕ → ℕ
   fold zero = 0
-  fold (suc i) = next-step prefix period (fold i)
+  fold (suc i) = next_step prefix period (fold i)
 
   module _ (some : 0 < length period) where
     abbrev p : ℕ
@@ -19,28 +19,28 @@ module _ (prefix period : List ℕ) where
     abbrev n : ℕ
     n = length period
 
-    next-on : (k : ℕ) → suc k < p + n → next-step prefix period k ≡ suc k
-    next-on k l = cond-false (eqb (suc k) (p + n)) p (suc k) (ne_eqb _ _ (omega arith))
+    next_on : (k : ℕ) → suc k < p + n → next_step prefix period k ≡ suc k
+    next_on k l = cond-false (eqb (suc k) (p + n)) p (suc k) (ne_eqb _ _ (omega arith))
 
-    next_last : (k : ℕ) → suc k ≡ p + n → next-step prefix period k ≡ p
+    next_last : (k : ℕ) → suc k ≡ p + n → next_step prefix period k ≡ p
     next_last k e = cond-true (eqb (suc k) (p + n)) p (suc k) (eq-eqb _ _ e)
 
-    pub next-in : (k : ℕ) → k < p + n → next-step prefix period k < p + n
-    next-in k k< =
+    pub next_in : (k : ℕ) → k < p + n → next_step prefix period k < p + n
+    next_in k k< =
         elim (cases_eq (suc k) (p + n)) [
           | inl e ↦ rw (next_last k e) (omega arith)
-          | inr other ↦ (let l : suc k < p + n = omega arith in rw (next-on k l) l)
+          | inr other ↦ (let l : suc k < p + n = omega arith in rw (next_on k l) l)
         ]
 
-    pub fold-in : (i : ℕ) → fold i < p + n
+    pub fold_in : (i : ℕ) → fold i < p + n
     unfolding fold
-    fold-in zero = omega arith
-    fold-in (suc i) = next-in (fold i) (fold-in i)
+    fold_in zero = omega arith
+    fold_in (suc i) = next_in (fold i) (fold_in i)
 
     early : (i : ℕ) → i ≤ p → fold i ≡ i
     unfolding fold
     early zero l = refl
-    early (suc i) l = ap (next-step prefix period) (early i (omega arith)) ∙ next-on i (omega arith)
+    early (suc i) l = ap (next_step prefix period) (early i (omega arith)) ∙ next_on i (omega arith)
 
     late : (j : ℕ) → fold (p + j) ≡ p + j % n
     unfolding fold
@@ -52,18 +52,18 @@ module _ (prefix period : List ℕ) where
         let e : p + suc j ≡ suc (p + j) = omega arith in
         let s : (j % n + 1) % n ≡ suc j % n = mod-add-mod j n 1 ∙ ap (λ k. k % n) (let t : j + 1 ≡ suc j = omega arith in t) in
         let b = mod_below j n some in
-        ap fold e ∙ ap (next-step prefix period) (late j)
+        ap fold e ∙ ap (next_step prefix period) (late j)
         ∙ elim (cases_eq (suc (j % n)) n) [
           | inl l ↦ (let z : (j % n + 1) % n ≡ 0 = ap (λ k. k % n) (let t : j % n + 1 ≡ n = omega arith in t) ∙ mod_self n in next_last (p + j % n) (omega arith) ∙ (let f : p ≡ p + suc j % n = omega arith in f))
-          | inr l ↦ (let h : j % n + 1 < n = omega arith in let z : (j % n + 1) % n ≡ j % n + 1 = mod-eq_of_lt h in next-on (p + j % n) (omega arith) ∙ (let f : suc (p + j % n) ≡ p + suc j % n = omega arith in f))
+          | inr l ↦ (let h : j % n + 1 < n = omega arith in let z : (j % n + 1) % n ≡ j % n + 1 = mod-eq_of_lt h in next_on (p + j % n) (omega arith) ∙ (let f : suc (p + j % n) ≡ p + suc j % n = omega arith in f))
         ]
 
-    pub letter-late : (k : ℕ) → p ≤ k → letter prefix period k ≡ get_or period ((k - p) % n) 0
-    letter-late k l = cond-false (ltb k p) _ _ (le-ltb k p l)
+    pub letter_late : (k : ℕ) → p ≤ k → letter prefix period k ≡ get_or period ((k - p) % n) 0
+    letter_late k l = cond-false (ltb k p) _ _ (le-ltb k p l)
 
     -- the letter of the step that stands for step i is letter i
-    pub letter-same : (i : ℕ) → letter prefix period (fold i) ≡ letter prefix period i
-    letter-same i = elim (cases_lt i p) [ inl l ↦ ap (letter prefix period) (early i (omega arith)) | inr l ↦ on l ]
+    pub letter_same : (i : ℕ) → letter prefix period (fold i) ≡ letter prefix period i
+    letter_same i = elim (cases_lt i p) [ inl l ↦ ap (letter prefix period) (early i (omega arith)) | inr l ↦ on l ]
       where
         on : p ≤ i → letter prefix period (fold i) ≡ letter prefix period i
         on l =
@@ -72,12 +72,12 @@ module _ (prefix period : List ℕ) where
             let f : fold i ≡ p + j % n = ap fold e ∙ late j in
             let b = mod_below j n some in
             let back : p + j % n - p ≡ j % n = omega arith in
-            ap (letter prefix period) f ∙ letter-late (p + j % n) (omega arith) ∙ ap (λ k. get_or period (k % n) 0) back
-            ∙ ap (λ k. get_or period k 0) (mod-eq_of_lt b) ∙ sym (letter-late i l)
+            ap (letter prefix period) f ∙ letter_late (p + j % n) (omega arith) ∙ ap (λ k. get_or period (k % n) 0) back
+            ∙ ap (λ k. get_or period k 0) (mod-eq_of_lt b) ∙ sym (letter_late i l)
 
-  pub letter-in : (letters : ℕ) → Readable letters prefix period → (k : ℕ) → letter prefix period k < letters
-  letter-in letters r k =
+  pub letter_in : (letters : ℕ) → Readable letters prefix period → (k : ℕ) → letter prefix period k < letters
+  letter_in letters r k =
       elim (cases_lt k (length prefix)) [
-        | inl l ↦ subst (λ c. c < letters) (sym (cond-true (ltb k (length prefix)) _ _ (lt-ltb k (length prefix) l))) (r.prefix-in k l)
-        | inr l ↦ subst (λ c. c < letters) (sym (letter-late r.some k l)) (r.period-in _ (mod_below (k - length prefix) (length period) r.some))
+        | inl l ↦ subst (λ c. c < letters) (sym (cond-true (ltb k (length prefix)) _ _ (lt-ltb k (length prefix) l))) (r.prefix_in k l)
+        | inr l ↦ subst (λ c. c < letters) (sym (letter_late r.some k l)) (r.period_in _ (mod_below (k - length prefix) (length period) r.some))
       ]

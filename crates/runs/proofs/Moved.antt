@@ -14,11 +14,11 @@ Step G m x u w = (j : ℕ) × (j < G.degree u) × (w ≡ G.successor u j) × (G.
 abbrev pub Two : Game → Player → ℕ → ℕ → ℕ → Type 0
 Two G x u v w = (G.owner u ≡ x) × (G.degree u ≡ 2) × (G.successor u 0 ≡ v) × (G.successor u 1 ≡ w)
 
-pub not-zero : {x : Player} → x ≡ One → x ≡ Zero → ⊥
-not-zero e z = apart Zero (sym z ∙ e)
+pub not_zero : {x : Player} → x ≡ One → x ≡ Zero → ⊥
+not_zero e z = apart Zero (sym z ∙ e)
 
-pub not-one : {x : Player} → x ≡ Zero → x ≡ One → ⊥
-not-one e z = apart Zero (sym e ∙ z)
+pub not_one : {x : Player} → x ≡ Zero → x ≡ One → ⊥
+not_one e z = apart Zero (sym e ∙ z)
 
 module _ (G : Game) (m : ℕ → ℕ) (x : Player) (u : ℕ) where
   -- the other player's move

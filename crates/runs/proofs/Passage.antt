@@ -7,7 +7,7 @@ use Rattle.parity.specs.Player.{other}
 use Rattle.parity.specs.declared.player.Player.{Player}
 use Rattle.parity.proofs.Players.{which}
 use Rattle.runs.proofs.Moved.{Step}
-use Rattle.runs.proofs.Segments.{Chain, Each, joined, joined-start, joined_step, joined_meets, joined-each}
+use Rattle.runs.proofs.Segments.{Chain, Each, joined, joined_start, joined_step, joined_meets, joined_each}
 
 abbrev pub High : Game → ℕ → Type 0
 High G u = G.priority u ≡ 9999
@@ -24,8 +24,8 @@ module _ (G : Game) (m : ℕ → ℕ) (x : Player) where
   first_step u v w s h k = (v ∷ k.0, (s, k.1), (h, k.2))
 
 -- the smallest of the priorities favours y
-abbrev pub Least-favours : Game → Player → (ℕ → ℕ) → Type 0
-Least-favours G y p = (i : ℕ) → favoured G (p i) ≡ other y → (j : ℕ) × (p j < p i) × (favoured G (p j) ≡ y)
+abbrev pub LeastFavours : Game → Player → (ℕ → ℕ) → Type 0
+LeastFavours G y p = (i : ℕ) → favoured G (p i) ≡ other y → (j : ℕ) × (p j < p i) × (favoured G (p j) ≡ y)
 
 module _ (G : Game) (m : ℕ → ℕ) (x : Player) (head p : ℕ → ℕ) (priorities : (i : ℕ) → G.priority (head i) ≡ p i) (low : (i : ℕ) → p i < 9999)
     (walks : (i : ℕ) → Walk G m x (head i) (head (suc i))) where
@@ -42,12 +42,12 @@ module _ (G : Game) (m : ℕ → ℕ) (x : Player) (head p : ℕ → ℕ) (prior
   unfolding passage
   step = joined_step (Step G m x) head tail chain
 
-  pub passage-plays : Play G (head 0) passage
+  pub passage_plays : Play G (head 0) passage
   unfolding passage
-  passage-plays = record { starts = joined-start (Step G m x) head tail chain; goes = λ k. (let s = step k in (s.0, s.1, s.2)) }
+  passage_plays = record { starts = joined_start (Step G m x) head tail chain; goes = λ k. (let s = step k in (s.0, s.1, s.2)) }
 
-  pub passage-follows : (k : ℕ) → G.owner (passage k) ≡ x → passage (suc k) ≡ G.successor (passage k) (m (passage k))
-  passage-follows k = (step k).3
+  pub passage_follows : (k : ℕ) → G.owner (passage k) ≡ x → passage (suc k) ≡ G.successor (passage k) (m (passage k))
+  passage_follows k = (step k).3
 
   abbrev Seen : ℕ → Type 0
   Seen u = ((i : ℕ) × (G.priority u ≡ p i)) ⊎ High G u
@@ -58,14 +58,14 @@ module _ (G : Game) (m : ℕ → ℕ) (x : Player) (head p : ℕ → ℕ) (prior
 
   seen : (k : ℕ) → Seen (passage k)
   unfolding passage
-  seen = joined-each (Step G m x) head tail chain Seen (λ i. inl (i, priorities i)) (λ i. all_seen (tail i) (walks i).2)
+  seen = joined_each (Step G m x) head tail chain Seen (λ i. inl (i, priorities i)) (λ i. all_seen (tail i) (walks i).2)
 
   meets : (i : ℕ) → (k : ℕ) × (G.priority (passage k) ≡ p i)
   unfolding passage
   meets i = (let h = joined_meets (Step G m x) head tail chain i in (h.0, ap G.priority h.1 ∙ priorities i))
 
-  pub won-least : (y : Player) → Wins G y passage → Least-favours G y p
-  won-least y w i against =
+  pub won_least : (y : Player) → Wins G y passage → LeastFavours G y p
+  won_least y w i against =
       let k = meets i in
       let r = w k.0 (ap (favoured G) k.1 ∙ against) in
       elim (seen r.0) [
@@ -77,18 +77,18 @@ module _ (G : Game) (m : ℕ → ℕ) (x : Player) (head p : ℕ → ℕ) (prior
   abbrev Below : Player → ℕ → Type 0
   Below y b = (k : ℕ) × (G.priority (passage k) < b) × (favoured G (G.priority (passage k)) ≡ y)
 
-  below-from : (y : Player) (b j : ℕ) → p j < b → favoured G (p j) ≡ y → Below y b
-  below-from y b j l f = let k = meets j in (k.0, omega (arith, k.1), ap (favoured G) k.1 ∙ f)
+  below_from : (y : Player) (b j : ℕ) → p j < b → favoured G (p j) ≡ y → Below y b
+  below_from y b j l f = let k = meets j in (k.0, omega (arith, k.1), ap (favoured G) k.1 ∙ f)
 
-  pub least-wins : (y : Player) → Least-favours G y p → Wins G y passage
-  least-wins y least k against = elim (seen k) [ inl s ↦ at_head s.0 s.1 | inr e ↦ between e ]
+  pub least_wins : (y : Player) → LeastFavours G y p → Wins G y passage
+  least_wins y least k against = elim (seen k) [ inl s ↦ at_head s.0 s.1 | inr e ↦ between e ]
     where
       at_head : (i : ℕ) → G.priority (passage k) ≡ p i → Below y (G.priority (passage k))
-      at_head i e = let r = least i (ap (favoured G) (sym e) ∙ against) in below-from y _ r.0 (omega (arith, r.1)) r.2
+      at_head i e = let r = least i (ap (favoured G) (sym e) ∙ against) in below_from y _ r.0 (omega (arith, r.1)) r.2
 
       between : High G (passage k) → Below y (G.priority (passage k))
       between e =
           elim (which (favoured G (p 0)) y) [
-            | inl f ↦ below-from y _ 0 (omega (arith, low 0)) f
-            | inr f ↦ (let r = least 0 f in below-from y _ r.0 (omega (arith, r.1, low 0)) r.2)
+            | inl f ↦ below_from y _ 0 (omega (arith, low 0)) f
+            | inr f ↦ (let r = least 0 f in below_from y _ r.0 (omega (arith, r.1, low 0)) r.2)
           ]

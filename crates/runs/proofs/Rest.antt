@@ -5,8 +5,8 @@ use Rattle.std.proofs.lemmas.Bool.{cases_lt, lt-ltb, le-ltb, cond-true, cond-fal
 use Rattle.std.proofs.lemmas.Nat.{mod_below}
 use Rattle.std.proofs.lemmas.List.{length-drop, get_or-drop}
 use Rattle.runs.specs.Word.{letter}
-use Rattle.runs.specs.Step.{step, Step-is-rest}
-use Rattle.runs.proofs.Folds.{letter-late}
+use Rattle.runs.specs.Step.{step, StepIsRest}
+use Rattle.runs.proofs.Folds.{letter_late}
 
 module _ (prefix period : List ℕ) (some : 0 < length period) where
   abbrev p : ℕ
@@ -18,13 +18,13 @@ module _ (prefix period : List ℕ) (some : 0 < length period) where
   abbrev Rest : ℕ → List ℕ → Type 0
   Rest k l = (0 < length l) × ((j : ℕ) → j < length l → get_or l j 0 ≡ letter prefix period (k + j))
 
-  in-prefix : (k : ℕ) → k < p → Rest k (drop k prefix)
-  in-prefix k l =
+  in_prefix : (k : ℕ) → k < p → Rest k (drop k prefix)
+  in_prefix k l =
       let e = length-drop k prefix in
       (omega arith, λ j h. get_or-drop k prefix j 0 ∙ sym (cond-true (ltb (k + j) p) _ _ (lt-ltb (k + j) p (omega arith))))
 
-  in-period : (k : ℕ) → p ≤ k → Rest k (drop ((k - p) % n) period)
-  in-period k l =
+  in_period : (k : ℕ) → p ≤ k → Rest k (drop ((k - p) % n) period)
+  in_period k l =
       let m = (k - p) % n in
       let b = mod_below (k - p) n some in
       let e = length-drop m period in (
@@ -33,15 +33,15 @@ module _ (prefix period : List ℕ) (some : 0 < length period) where
             let split : (m + j) % n ≡ (k - p + j) % n = mod-add-mod (k - p) n j in
             let small : m + j < n = omega arith in
             let same : (k + j) - p ≡ k - p + j = omega arith in
-            get_or-drop m period j 0 ∙ ap (λ i. get_or period i 0) (sym (mod-eq_of_lt small) ∙ split ∙ ap (λ i. i % n) (sym same)) ∙ sym (letter-late prefix period some (k + j) (omega arith)),
+            get_or-drop m period j 0 ∙ ap (λ i. get_or period i 0) (sym (mod-eq_of_lt small) ∙ split ∙ ap (λ i. i % n) (sym same)) ∙ sym (letter_late prefix period some (k + j) (omega arith)),
       )
 
   pub rest : (k : ℕ) → Rest k (step prefix period k)
   rest k =
       elim (cases_lt k p) [
-        | inl l ↦ subst (Rest k) (sym (cond-true (ltb k p) (drop k prefix) _ (lt-ltb k p l))) (in-prefix k l)
-        | inr l ↦ subst (Rest k) (sym (cond-false (ltb k p) _ (drop ((k - p) % n) period) (le-ltb k p l))) (in-period k l)
+        | inl l ↦ subst (Rest k) (sym (cond-true (ltb k p) (drop k prefix) _ (lt-ltb k p l))) (in_prefix k l)
+        | inr l ↦ subst (Rest k) (sym (cond-false (ltb k p) _ (drop ((k - p) % n) period) (le-ltb k p l))) (in_period k l)
       ]
 
-pub step-is-rest : Step-is-rest
-step-is-rest prefix period k some = rest prefix period some k
+pub step_is_rest : StepIsRest
+step_is_rest prefix period k some = rest prefix period some k

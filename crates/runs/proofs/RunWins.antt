@@ -7,46 +7,46 @@ use Rattle.parity.specs.Move.{move}
 use Rattle.parity.specs.Determinacy.{reported}
 use Rattle.parity.specs.declared.player.Player.TheVariants.{Zero, One}
 use Rattle.parity.proofs.Players.{which}
-use Rattle.parity.proofs.Determined.{reported-wins, move-legal}
-use Rattle.parity.proofs.Duel.{not-both}
+use Rattle.parity.proofs.Determined.{reported_wins, move_legal}
+use Rattle.parity.proofs.Duel.{not_both}
 use Rattle.draft.specs.declared.parts.Node.TheVariants.{Leaf, Either, Both}
-use Rattle.draft.specs.Automaton.{Automaton, state-count, node-count, priority-of}
+use Rattle.draft.specs.Automaton.{Automaton, state_count, node_count, priority_of}
 use Rattle.draft.specs.WellFormed.{Fits}
-use Rattle.runs.specs.Models.{In, Model, by-leaf, by_left, by_right, by_both}
-use Rattle.runs.specs.Run.{rule-node, Least-even, Accepts}
-use Rattle.runs.proofs.Moved.{Step, not-one, free, forced, of_two}
-use Rattle.runs.proofs.Passage.{Walk, last_step, first_step, passage, passage-plays, passage-follows, least-wins}
-use Rattle.runs.proofs.WordArena.{Node-at, Word-arena, even-least}
+use Rattle.runs.specs.Models.{In, Model, by_leaf, by_left, by_right, by_both}
+use Rattle.runs.specs.Run.{rule_node, LeastEven, Accepts}
+use Rattle.runs.proofs.Moved.{Step, not_one, free, forced, of_two}
+use Rattle.runs.proofs.Passage.{Walk, last_step, first_step, passage, passage_plays, passage_follows, least_wins}
+use Rattle.runs.proofs.WordArena.{NodeAt, WordArena, even_least}
 
-module _ (G : Game) (a : Automaton) (word : ℕ → ℕ) (st nd : ℕ → ℕ → ℕ) (arena : Word-arena G a word st nd) where
+module _ (G : Game) (a : Automaton) (word : ℕ → ℕ) (st nd : ℕ → ℕ → ℕ) (arena : WordArena G a word st nd) where
   -- whatever player 1 does by m, the play gets from a node to a state of the model
   module _ (m : ℕ → ℕ) (legal : (u : ℕ) → u < G.count → m u < G.degree u) where
     abbrev Reaches : (ℕ → Type 0) → ℕ → ℕ → Type 0
-    Reaches M i x = (q : ℕ) × (q < state-count a) × M q × Walk G m One (nd i x) (st (suc i) q)
+    Reaches M i x = (q : ℕ) × (q < state_count a) × M q × Walk G m One (nd i x) (st (suc i) q)
 
-    further : (M : ℕ → Type 0) (i x y : ℕ) → y < node-count a → Step G m One (nd i x) (nd i y) → Reaches M i y → Reaches M i x
-    further M i x y y< s w = (w.0, w.1, w.2, first_step G m One (nd i x) (nd i y) (st (suc i) w.0) s (arena.node-high i y y<) w.3)
+    further : (M : ℕ → Type 0) (i x y : ℕ) → y < node_count a → Step G m One (nd i x) (nd i y) → Reaches M i y → Reaches M i x
+    further M i x y y< s w = (w.0, w.1, w.2, first_step G m One (nd i x) (nd i y) (st (suc i) w.0) s (arena.node_high i y y<) w.3)
 
-    reaches : (M : ℕ → Type 0) (i x : ℕ) → x < node-count a → Model a M x → Reaches M i x
-    reaches M i x x< (by-leaf {q = q} e h) =
-        let n : Fits (state-count a) x (Leaf q) = subst (Fits (state-count a) x) e (arena.formed.named x x<) in
-        let at : Node-at G st nd i x (Leaf q) = subst (Node-at G st nd i x) e (arena.node_at i x x<) in
+    reaches : (M : ℕ → Type 0) (i x : ℕ) → x < node_count a → Model a M x → Reaches M i x
+    reaches M i x x< (by_leaf {q = q} e h) =
+        let n : Fits (state_count a) x (Leaf q) = subst (Fits (state_count a) x) e (arena.formed.named x x<) in
+        let at : NodeAt G st nd i x (Leaf q) = subst (NodeAt G st nd i x) e (arena.node_at i x x<) in
         (q, n, h, last_step G m One _ _ (forced G m One (nd i x) _ (legal _ (arena.node_in i x x<)) at.0 at.1))
     reaches M i x x< (by_left {l = l} {r = r} e h) =
-        let n : Fits (state-count a) x (Either l r) = subst (Fits (state-count a) x) e (arena.formed.named x x<) in
-        let at : Node-at G st nd i x (Either l r) = subst (Node-at G st nd i x) e (arena.node_at i x x<) in
-        let l< : l < node-count a = omega (arith, n.0) in
-        further M i x l l< (free G m One (nd i x) _ 0 (omega (arith, at.1)) at.2 (not-one at.0)) (reaches M i l l< h)
+        let n : Fits (state_count a) x (Either l r) = subst (Fits (state_count a) x) e (arena.formed.named x x<) in
+        let at : NodeAt G st nd i x (Either l r) = subst (NodeAt G st nd i x) e (arena.node_at i x x<) in
+        let l< : l < node_count a = omega (arith, n.0) in
+        further M i x l l< (free G m One (nd i x) _ 0 (omega (arith, at.1)) at.2 (not_one at.0)) (reaches M i l l< h)
     reaches M i x x< (by_right {l = l} {r = r} e h) =
-        let n : Fits (state-count a) x (Either l r) = subst (Fits (state-count a) x) e (arena.formed.named x x<) in
-        let at : Node-at G st nd i x (Either l r) = subst (Node-at G st nd i x) e (arena.node_at i x x<) in
-        let r< : r < node-count a = omega (arith, n.1) in
-        further M i x r r< (free G m One (nd i x) _ 1 (omega (arith, at.1)) at.3 (not-one at.0)) (reaches M i r r< h)
+        let n : Fits (state_count a) x (Either l r) = subst (Fits (state_count a) x) e (arena.formed.named x x<) in
+        let at : NodeAt G st nd i x (Either l r) = subst (NodeAt G st nd i x) e (arena.node_at i x x<) in
+        let r< : r < node_count a = omega (arith, n.1) in
+        further M i x r r< (free G m One (nd i x) _ 1 (omega (arith, at.1)) at.3 (not_one at.0)) (reaches M i r r< h)
     reaches M i x x< (by_both {l = l} {r = r} e h h') =
-        let n : Fits (state-count a) x (Both l r) = subst (Fits (state-count a) x) e (arena.formed.named x x<) in
-        let at : Node-at G st nd i x (Both l r) = subst (Node-at G st nd i x) e (arena.node_at i x x<) in
-        let l< : l < node-count a = omega (arith, n.0) in
-        let r< : r < node-count a = omega (arith, n.1) in
+        let n : Fits (state_count a) x (Both l r) = subst (Fits (state_count a) x) e (arena.formed.named x x<) in
+        let at : NodeAt G st nd i x (Both l r) = subst (NodeAt G st nd i x) e (arena.node_at i x x<) in
+        let l< : l < node_count a = omega (arith, n.0) in
+        let r< : r < node_count a = omega (arith, n.1) in
         let first : Reaches M i l = reaches M i l l< h in
         let second : Reaches M i r = reaches M i r r< h' in
         elim (of_two G m One (nd i x) _ _ (legal _ (arena.node_in i x x<)) at.1 at.2 at.3) [
@@ -55,16 +55,16 @@ module _ (G : Game) (a : Automaton) (word : ℕ → ℕ) (st nd : ℕ → ℕ �
         ]
 
     -- all that is used of a run: the successors of each vertex are a model, whatever kind of sets they are
-    module _ (start : ℕ) (start< : start < state-count a) (V : ℕ → ℕ → Type 0) (E : ℕ → ℕ → ℕ → Type 0) (first : V 0 start)
-        (onto : (i p q : ℕ) → E i p q → V (suc i) q) (models : (i p : ℕ) → V i p → Model a (E i p) (rule-node a p (word i))) where
+    module _ (start : ℕ) (start< : start < state_count a) (V : ℕ → ℕ → Type 0) (E : ℕ → ℕ → ℕ → Type 0) (first : V 0 start)
+        (onto : (i p q : ℕ) → E i p q → V (suc i) q) (models : (i p : ℕ) → V i p → Model a (E i p) (rule_node a p (word i))) where
       abbrev Here : ℕ → Type 0
-      Here i = (p : ℕ) × (p < state-count a) × V i p
+      Here i = (p : ℕ) × (p < state_count a) × V i p
 
-      rule-in : (i : ℕ) (h : Here i) → rule-node a h.0 (word i) < node-count a
-      rule-in i h = arena.formed.ruled h.0 (word i) h.1 (arena.reads i)
+      rule_in : (i : ℕ) (h : Here i) → rule_node a h.0 (word i) < node_count a
+      rule_in i h = arena.formed.ruled h.0 (word i) h.1 (arena.reads i)
 
-      link : (i : ℕ) (h : Here i) → Reaches (E i h.0) i (rule-node a h.0 (word i))
-      link i h = reaches (E i h.0) i (rule-node a h.0 (word i)) (rule-in i h) (models i h.0 h.2)
+      link : (i : ℕ) (h : Here i) → Reaches (E i h.0) i (rule_node a h.0 (word i))
+      link i h = reaches (E i h.0) i (rule_node a h.0 (word i)) (rule_in i h) (models i h.0 h.2)
 
       here : (i : ℕ) → Here i
       here zero = (start, start<, first)
@@ -73,22 +73,22 @@ module _ (G : Game) (a : Automaton) (word : ℕ → ℕ) (st nd : ℕ → ℕ �
       ρ : ℕ → ℕ
       ρ i = (here i).0
 
-      path-starts : ρ 0 ≡ start
+      path_starts : ρ 0 ≡ start
       unfolding ρ here
-      path-starts = refl
+      path_starts = refl
 
-      path-goes : (i : ℕ) → E i (ρ i) (ρ (suc i))
+      path_goes : (i : ℕ) → E i (ρ i) (ρ (suc i))
       unfolding ρ here
-      path-goes i = (link i (here i)).2
+      path_goes i = (link i (here i)).2
 
       abbrev head : ℕ → ℕ
       head i = st i (ρ i)
 
-      priorities : (i : ℕ) → G.priority (head i) ≡ priority-of a (ρ i)
+      priorities : (i : ℕ) → G.priority (head i) ≡ priority_of a (ρ i)
       unfolding ρ
-      priorities i = arena.state-priority i (ρ i) (here i).1
+      priorities i = arena.state_priority i (ρ i) (here i).1
 
-      low : (i : ℕ) → priority-of a (ρ i) < 9999
+      low : (i : ℕ) → priority_of a (ρ i) < 9999
       unfolding ρ
       low i = omega (arith, arena.formed.low (ρ i) (here i).1)
 
@@ -96,45 +96,45 @@ module _ (G : Game) (a : Automaton) (word : ℕ → ℕ) (st nd : ℕ → ℕ �
       unfolding ρ here
       walks i =
           let h = here i in
-          let s = forced G m One (st i h.0) _ (legal _ (arena.state-in i h.0 h.1)) (arena.state-degree i h.0 h.1) (arena.state-next i h.0 h.1) in
-          first_step G m One _ _ _ s (arena.node-high i _ (rule-in i h)) (link i h).3
+          let s = forced G m One (st i h.0) _ (legal _ (arena.state_in i h.0 h.1)) (arena.state_degree i h.0 h.1) (arena.state_next i h.0 h.1) in
+          first_step G m One _ _ _ s (arena.node_high i _ (rule_in i h)) (link i h).3
 
       abbrev p : ℕ → ℕ
-      p i = priority-of a (ρ i)
+      p i = priority_of a (ρ i)
 
       pub play : ℕ → ℕ
       play = passage G m One head p priorities low walks
 
-      pub play-plays : Play G (st 0 start) play
+      pub play_plays : Play G (st 0 start) play
       unfolding play ρ here
-      play-plays = passage-plays G m One head p priorities low walks
+      play_plays = passage_plays G m One head p priorities low walks
 
-      pub play-follows : (k : ℕ) → G.owner (play k) ≡ One → play (suc k) ≡ G.successor (play k) (m (play k))
+      pub play_follows : (k : ℕ) → G.owner (play k) ≡ One → play (suc k) ≡ G.successor (play k) (m (play k))
       unfolding play
-      play-follows = passage-follows G m One head p priorities low walks
+      play_follows = passage_follows G m One head p priorities low walks
 
-      pub play-won : ((ρ' : ℕ → ℕ) → ρ' 0 ≡ start → ((i : ℕ) → E i (ρ' i) (ρ' (suc i))) → Least-even a ρ') → Wins G Zero play
+      pub play_won : ((ρ' : ℕ → ℕ) → ρ' 0 ≡ start → ((i : ℕ) → E i (ρ' i) (ρ' (suc i))) → LeastEven a ρ') → Wins G Zero play
       unfolding play
-      play-won accepted = least-wins G m One head p priorities low walks Zero (even-least G arena.even-zero a ρ (accepted ρ path-starts path-goes))
+      play_won accepted = least_wins G m One head p priorities low walks Zero (even_least G arena.even_zero a ρ (accepted ρ path_starts path_goes))
 
-  pub models-win : (start : ℕ) → start < state-count a → (V : ℕ → ℕ → Type 0) (E : ℕ → ℕ → ℕ → Type 0) → V 0 start →
-      ((i p q : ℕ) → E i p q → V (suc i) q) → ((i p : ℕ) → V i p → Model a (E i p) (rule-node a p (word i))) →
-      ((ρ : ℕ → ℕ) → ρ 0 ≡ start → ((i : ℕ) → E i (ρ i) (ρ (suc i))) → Least-even a ρ) → winner G (st 0 start) ≡ Zero
+  pub models-win : (start : ℕ) → start < state_count a → (V : ℕ → ℕ → Type 0) (E : ℕ → ℕ → ℕ → Type 0) → V 0 start →
+      ((i p q : ℕ) → E i p q → V (suc i) q) → ((i p : ℕ) → V i p → Model a (E i p) (rule_node a p (word i))) →
+      ((ρ : ℕ → ℕ) → ρ 0 ≡ start → ((i : ℕ) → E i (ρ i) (ρ (suc i))) → LeastEven a ρ) → winner G (st 0 start) ≡ Zero
   models-win start start< V E first onto models accepted =
-      elim (which (winner G (st 0 start)) Zero) [ inl e ↦ e | inr e ↦ absurd (not-both G Zero π (play-won (move G) legal start start< V E first onto models accepted) (lost e)) ]
+      elim (which (winner G (st 0 start)) Zero) [ inl e ↦ e | inr e ↦ absurd (not_both G Zero π (play_won (move G) legal start start< V E first onto models accepted) (lost e)) ]
     where
       legal : (u : ℕ) → u < G.count → move G u < G.degree u
-      legal = move-legal G arena.sound
+      legal = move_legal G arena.sound
 
       π : ℕ → ℕ
       π = play (move G) legal start start< V E first onto models
 
       lost : winner G (st 0 start) ≡ One → Wins G One π
       lost e =
-          let w = subst (λ x. Winning G x (reported G) (st 0 start)) e (reported-wins G arena.sound (st 0 start) (arena.state-in 0 start start<)) in
-          w.wins π (play-plays (move G) legal start start< V E first onto models) (play-follows (move G) legal start start< V E first onto models)
+          let w = subst (λ x. Winning G x (reported G) (st 0 start)) e (reported_wins G arena.sound (st 0 start) (arena.state_in 0 start start<)) in
+          w.wins π (play_plays (move G) legal start start< V E first onto models) (play_follows (move G) legal start start< V E first onto models)
 
-  pub run-wins : (start : ℕ) → start < state-count a → Accepts a word start → winner G (st 0 start) ≡ Zero
-  run-wins start start< acc =
+  pub run_wins : (start : ℕ) → start < state_count a → Accepts a word start → winner G (st 0 start) ≡ Zero
+  run_wins start start< acc =
       models-win start start< (λ i. In (acc.vertices i)) (λ i p. In (acc.edges i p)) acc.run.starts acc.run.to
       (λ i p h. (acc.run.minimal i p h).model) (λ ρ e steps. acc.even ρ (record { starts = e; goes = steps }))

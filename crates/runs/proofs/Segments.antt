@@ -37,9 +37,9 @@ module _ (Step : ℕ → ℕ → Type 0) (head : ℕ → ℕ) (tail : ℕ → Li
   pub joined : ℕ → ℕ
   joined k = (at k).now
 
-  pub joined-start : joined 0 ≡ head 0
+  pub joined_start : joined 0 ≡ head 0
   unfolding joined at enter
-  joined-start = refl
+  joined_start = refl
 
   pub joined_step : (k : ℕ) → Step (joined k) (joined (suc k))
   unfolding joined at
@@ -63,16 +63,16 @@ module _ (Step : ℕ → ℕ → Type 0) (head : ℕ → ℕ) (tail : ℕ → Li
 
   -- what holds of each vertex of each segment holds of each vertex met
   module _ (P : ℕ → Type 0) (heads : (i : ℕ) → P (head i)) (tails : (i : ℕ) → Each P (tail i)) where
-    on-each : (i u : ℕ) (l : List ℕ) (c : Chain Step u l (head (suc i))) → Each P l → P (on i u l c).now × Each P (on i u l c).left
+    on_each : (i u : ℕ) (l : List ℕ) (c : Chain Step u l (head (suc i))) → Each P l → P (on i u l c).now × Each P (on i u l c).left
     unfolding on enter
-    on-each i u [] c e = (heads (suc i), tails (suc i))
-    on-each i u (t ∷ ts) c e = (e.0, e.1)
+    on_each i u [] c e = (heads (suc i), tails (suc i))
+    on_each i u (t ∷ ts) c e = (e.0, e.1)
 
     at_each : (k : ℕ) → P (at k).now × Each P (at k).left
     unfolding at enter
     at_each zero = (heads 0, tails 0)
-    at_each (suc k) = (let a = at k in on-each a.segment a.now a.left a.ahead (at_each k).1)
+    at_each (suc k) = (let a = at k in on_each a.segment a.now a.left a.ahead (at_each k).1)
 
-    pub joined-each : (k : ℕ) → P (joined k)
+    pub joined_each : (k : ℕ) → P (joined k)
     unfolding joined
-    joined-each k = (at_each k).0
+    joined_each k = (at_each k).0

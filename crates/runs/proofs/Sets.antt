@@ -3,40 +3,40 @@ use Rattle.std.proofs.Common.{◌≡◌, ℕ, zero, suc, ◌<◌, ◌≤◌, tru
 use Rattle.std.proofs.lemmas.Bool.{cases_eq, cases_Bool, and_parts, and_from, both_ways, ne_eqb, eqb-false, not-true, not_from_false}
 use Rattle.draft.specs.declared.parts.Node.{Node}
 use Rattle.draft.specs.declared.parts.Node.TheVariants.{Leaf, Either, Both}
-use Rattle.draft.specs.Automaton.{Automaton, state-count, node-count, node_of}
+use Rattle.draft.specs.Automaton.{Automaton, state_count, node_count, node_of}
 use Rattle.draft.specs.WellFormed.{Fits}
-use Rattle.runs.specs.Models.{States, In, ◌⊆◌, Model, by-leaf, by_left, by_right, by_both, Minimal}
+use Rattle.runs.specs.Models.{States, In, ◌⊆◌, Model, by_leaf, by_left, by_right, by_both, Minimal}
 
 -- a set without one state
 pub minus : States → ℕ → States
 minus M q p = not (eqb p q) && M p
 
-pub minus-sub : (M : States) (q : ℕ) → minus M q ⊆ M
+pub minus_sub : (M : States) (q : ℕ) → minus M q ⊆ M
 unfolding minus
-minus-sub M q p h = (and_parts _ _ h).1
+minus_sub M q p h = (and_parts _ _ h).1
 
-minus-mono : (M N : States) (q : ℕ) → M ⊆ N → minus M q ⊆ minus N q
+minus_mono : (M N : States) (q : ℕ) → M ⊆ N → minus M q ⊆ minus N q
 unfolding minus
-minus-mono M N q s p h = (let k = and_parts (not (eqb p q)) (M p) h in and_from _ _ k.0 (s p k.1))
+minus_mono M N q s p h = (let k = and_parts (not (eqb p q)) (M p) h in and_from _ _ k.0 (s p k.1))
 
-pub minus-not : (M : States) (q : ℕ) → minus M q q ≡ true → ⊥
+pub minus_not : (M : States) (q : ℕ) → minus M q q ≡ true → ⊥
 unfolding minus
-minus-not M q h = eqb-false q q (not-true _ (and_parts (not (eqb q q)) (M q) h).0) refl
+minus_not M q h = eqb-false q q (not-true _ (and_parts (not (eqb q q)) (M q) h).0) refl
 
-pub minus-from : (M : States) (q p : ℕ) → (p ≡ q → ⊥) → M p ≡ true → minus M q p ≡ true
+pub minus_from : (M : States) (q p : ℕ) → (p ≡ q → ⊥) → M p ≡ true → minus M q p ≡ true
 unfolding minus
-minus-from M q p n h = and_from _ _ (not_from_false _ (ne_eqb p q n)) h
+minus_from M q p n h = and_from _ _ (not_from_false _ (ne_eqb p q n)) h
 
 module _ (a : Automaton) where
   pub grows : (M N : ℕ → Type 0) → ((q : ℕ) → M q → N q) → (x : ℕ) → Model a M x → Model a N x
-  grows M N s x (by-leaf e h) = by-leaf e (s _ h)
+  grows M N s x (by_leaf e h) = by_leaf e (s _ h)
   grows M N s x (by_left e h) = by_left e (grows M N s _ h)
   grows M N s x (by_right e h) = by_right e (grows M N s _ h)
   grows M N s x (by_both e h h') = by_both e (grows M N s _ h) (grows M N s _ h')
 
   -- a model has finitely many leaves: q is among them, or can be left out
   pub without : (M : ℕ → Type 0) (q x : ℕ) → Model a M x → M q ⊎ Model a (λ p. M p × (p ≡ q → ⊥)) x
-  without M q x (by-leaf {q = p} e h) = elim (cases_eq p q) [ inl s ↦ inl (subst M s h) | inr n ↦ inr (by-leaf e (h, n)) ]
+  without M q x (by_leaf {q = p} e h) = elim (cases_eq p q) [ inl s ↦ inl (subst M s h) | inr n ↦ inr (by_leaf e (h, n)) ]
   without M q x (by_left e h) = elim (without M q _ h) [ inl k ↦ inl k | inr k ↦ inr (by_left e k) ]
   without M q x (by_right e h) = elim (without M q _ h) [ inl k ↦ inl k | inr k ↦ inr (by_right e k) ]
   without M q x (by_both e h h') = elim (without M q _ h) [ inl k ↦ inl k | inr k ↦ elim (without M q _ h') [ inl k' ↦ inl k' | inr k' ↦ inr (by_both e k k') ] ]
@@ -48,48 +48,48 @@ module _ (a : Automaton) where
   Parts M (Both l r) = Model a (In M) l × Model a (In M) r
 
   parts : (M : States) (x : ℕ) → Model a (In M) x → Parts M (node_of a x)
-  parts M x (by-leaf e h) = subst (Parts M) (sym e) h
+  parts M x (by_leaf e h) = subst (Parts M) (sym e) h
   parts M x (by_left e h) = subst (Parts M) (sym e) (inl h)
   parts M x (by_right e h) = subst (Parts M) (sym e) (inr h)
   parts M x (by_both e h h') = subst (Parts M) (sym e) (h, h')
 
   whole : (M : States) (x : ℕ) (n : Node) → node_of a x ≡ n → Parts M n → Model a (In M) x
-  whole M x (Leaf q) e h = by-leaf e h
+  whole M x (Leaf q) e h = by_leaf e h
   whole M x (Either l r) e (inl h) = by_left e h
   whole M x (Either l r) e (inr h) = by_right e h
   whole M x (Both l r) e (h, h') = by_both e h h'
 
-  module _ (named : (x : ℕ) → x < node-count a → Fits (state-count a) x (node_of a x)) where
+  module _ (named : (x : ℕ) → x < node_count a → Fits (state_count a) x (node_of a x)) where
     abbrev Decided : Type 0 → Type 0
     Decided P = P ⊎ (P → ⊥)
 
-    parts-decided : (M : States) (x : ℕ) (n : Node) → Fits (state-count a) x n → ((y : ℕ) → y < x → Decided (Model a (In M) y)) → Decided (Parts M n)
-    parts-decided M x (Leaf q) _ rec = elim (cases_Bool (M q)) [ inl e ↦ inl e | inr e ↦ inr (both_ways (M q) e) ]
-    parts-decided M x (Either l r) (l<, r<) rec =
+    parts_decided : (M : States) (x : ℕ) (n : Node) → Fits (state_count a) x n → ((y : ℕ) → y < x → Decided (Model a (In M) y)) → Decided (Parts M n)
+    parts_decided M x (Leaf q) _ rec = elim (cases_Bool (M q)) [ inl e ↦ inl e | inr e ↦ inr (both_ways (M q) e) ]
+    parts_decided M x (Either l r) (l<, r<) rec =
         elim (rec l l<) [ inl h ↦ inl (inl h) | inr none ↦ elim (rec r r<) [ inl b ↦ inl (inr b) | inr b ↦ inr (λ s. elim s [ inl h ↦ none h | inr h ↦ b h ]) ] ]
-    parts-decided M x (Both l r) (l<, r<) rec =
+    parts_decided M x (Both l r) (l<, r<) rec =
         elim (rec l l<) [ inr none ↦ inr (λ s. none s.0) | inl h ↦ elim (rec r r<) [ inl b ↦ inl (h, b) | inr b ↦ inr (λ s. b s.1) ] ]
 
-    decide : (M : States) (f x : ℕ) → x < f → x < node-count a → Decided (Model a (In M) x)
+    decide : (M : States) (f x : ℕ) → x < f → x < node_count a → Decided (Model a (In M) x)
     decide M zero x l x< = absurd (omega arith)
     decide M (suc f) x l x< =
-        elim (parts-decided M x (node_of a x) (named x x<) (λ y y<. decide M f y (omega arith) (omega arith)))
+        elim (parts_decided M x (node_of a x) (named x x<) (λ y y<. decide M f y (omega arith) (omega arith)))
         [ inl h ↦ inl (whole M x (node_of a x) refl h) | inr n ↦ inr (λ h. n (parts M x h)) ]
 
-    module _ (x : ℕ) (x< : x < node-count a) (M : States) (h : Model a (In M) x) where
+    module _ (x : ℕ) (x< : x < node_count a) (M : States) (h : Model a (In M) x) where
       -- a model inside M from which no state below k can be left out
       abbrev Shrunk : ℕ → Type 0
       Shrunk k = (N : States) × (N ⊆ M) × Model a (In N) x × ((q : ℕ) → q < k → N q ≡ true → Model a (In (minus N q)) x → ⊥)
 
-      shrink-more : (k : ℕ) → Shrunk k → Shrunk (suc k)
-      shrink-more k (N, sub, model, least) = elim (decide (minus N k) (suc x) x (omega arith) x<) [ inl fits ↦ (minus N k, (λ p e. sub p (minus-sub N k p e)), fits, smaller) | inr misses ↦ (N, sub, model, with_it misses) ]
+      shrink_more : (k : ℕ) → Shrunk k → Shrunk (suc k)
+      shrink_more k (N, sub, model, least) = elim (decide (minus N k) (suc x) x (omega arith) x<) [ inl fits ↦ (minus N k, (λ p e. sub p (minus_sub N k p e)), fits, smaller) | inr misses ↦ (N, sub, model, with_it misses) ]
         where
           smaller : (q : ℕ) → q < suc k → minus N k q ≡ true → Model a (In (minus (minus N k) q)) x → ⊥
           smaller q l e fit =
               let le : q ≤ k = omega arith in
               elim (eq-or-lt_of_le le) [
-                | inl same ↦ minus-not N k (subst (λ p. minus N k p ≡ true) same e)
-                | inr less ↦ least q less (minus-sub N k q e) (grows (In (minus (minus N k) q)) (In (minus N q)) (minus-mono (minus N k) N q (minus-sub N k)) x fit)
+                | inl same ↦ minus_not N k (subst (λ p. minus N k p ≡ true) same e)
+                | inr less ↦ least q less (minus_sub N k q e) (grows (In (minus (minus N k) q)) (In (minus N q)) (minus_mono (minus N k) N q (minus_sub N k)) x fit)
               ]
 
           with_it : (Model a (In (minus N k)) x → ⊥) → (q : ℕ) → q < suc k → N q ≡ true → Model a (In (minus N q)) x → ⊥
@@ -99,16 +99,16 @@ module _ (a : Automaton) where
 
       shrink : (k : ℕ) → Shrunk k
       shrink zero = (M, (λ p e. e), h, λ q l. absurd (omega arith))
-      shrink (suc k) = shrink-more k (shrink k)
+      shrink (suc k) = shrink_more k (shrink k)
 
       -- a minimal model inside a model of states below b
-      pub minimal-inside : (b : ℕ) → ((q : ℕ) → M q ≡ true → q < b) → (N : States) × (N ⊆ M) × Minimal a N x
-      minimal-inside b below =
+      pub minimal_inside : (b : ℕ) → ((q : ℕ) → M q ≡ true → q < b) → (N : States) × (N ⊆ M) × Minimal a N x
+      minimal_inside b below =
           let s = shrink b in (
             s.0,
             s.1,
             record {
               model = s.2;
-              least = λ N sub fit q e. elim (without (In N) q x fit) [ inl t ↦ t | inr rest ↦ absurd (s.3 q (below q (s.1 q e)) e (grows _ (In (minus s.0 q)) (λ p h. minus-from s.0 q p h.1 (sub p h.0)) x rest)) ];
+              least = λ N sub fit q e. elim (without (In N) q x fit) [ inl t ↦ t | inr rest ↦ absurd (s.3 q (below q (s.1 q e)) e (grows _ (In (minus s.0 q)) (λ p h. minus_from s.0 q p h.1 (sub p h.0)) x rest)) ];
             },
           )

@@ -8,18 +8,18 @@ use Rattle.parity.specs.Grading.{winner}
 use Rattle.parity.specs.Move.{move}
 use Rattle.parity.specs.Play.{Play, Winning}
 use Rattle.parity.specs.declared.player.Player.TheVariants.{Zero}
-use Rattle.parity.proofs.Below.{some-gives, some-from}
-use Rattle.parity.proofs.Determined.{reported-wins, move-legal}
+use Rattle.parity.proofs.Below.{some_gives, some_from}
+use Rattle.parity.proofs.Determined.{reported_wins, move_legal}
 use Rattle.draft.specs.declared.parts.Node.{Node}
 use Rattle.draft.specs.declared.parts.Node.TheVariants.{Leaf, Either, Both}
-use Rattle.draft.specs.Automaton.{Automaton, state-count, node-count, priority-of, node_of}
+use Rattle.draft.specs.Automaton.{Automaton, state_count, node_count, priority_of, node_of}
 use Rattle.draft.specs.WellFormed.{Fits}
-use Rattle.runs.specs.Models.{States, In, ◌⊆◌, Model, by-leaf, by_left, by_right, by_both, Minimal}
-use Rattle.runs.specs.Run.{rule-node, Run, Run-path, Least-even, Accepts}
-use Rattle.runs.proofs.Moved.{Step, not-zero, free, taken, forced}
-use Rattle.runs.proofs.Passage.{Walk, last_step, first_step, passage, passage-plays, passage-follows, won-least}
-use Rattle.runs.proofs.Sets.{grows, minimal-inside}
-use Rattle.runs.proofs.WordArena.{Node-at, Word-arena, least-even}
+use Rattle.runs.specs.Models.{States, In, ◌⊆◌, Model, by_leaf, by_left, by_right, by_both, Minimal}
+use Rattle.runs.specs.Run.{rule_node, Run, RunPath, LeastEven, Accepts}
+use Rattle.runs.proofs.Moved.{Step, not_zero, free, taken, forced}
+use Rattle.runs.proofs.Passage.{Walk, last_step, first_step, passage, passage_plays, passage_follows, won_least}
+use Rattle.runs.proofs.Sets.{grows, minimal_inside}
+use Rattle.runs.proofs.WordArena.{NodeAt, WordArena, least_even}
 
 -- the states picked at a node: by the left or right child at "or", by both at "and"
 abbrev pick : Node → Bool → (ℕ → States) → States
@@ -27,17 +27,17 @@ pick (Leaf p) left picks q = eqb p q
 pick (Either l r) left picks q = cond left (picks l q) (picks r q)
 pick (Both l r) left picks q = picks l q || picks r q
 
-module _ (G : Game) (a : Automaton) (word : ℕ → ℕ) (st nd : ℕ → ℕ → ℕ) (arena : Word-arena G a word st nd)
+module _ (G : Game) (a : Automaton) (word : ℕ → ℕ) (st nd : ℕ → ℕ → ℕ) (arena : WordArena G a word st nd)
     (m : ℕ → ℕ) (legal : (u : ℕ) → u < G.count → m u < G.degree u) where
   -- the states that player 0's moves lead to from node x at step i, down to a depth of f
   picks : ℕ → ℕ → ℕ → States
   picks zero i x q = false
   picks (suc f) i x q = pick (node_of a x) (eqb (m (nd i x)) 0) (picks f i) q
 
-  picks-model : (f i x : ℕ) → x < f → x < node-count a → Model a (In (picks f i x)) x
+  picks_model : (f i x : ℕ) → x < f → x < node_count a → Model a (In (picks f i x)) x
   unfolding picks
-  picks-model zero i x l x< = absurd (omega arith)
-  picks-model (suc f) i x l x< = go (node_of a x) refl (arena.formed.named x x<) (λ y y<. picks-model f i y (omega arith) (omega arith))
+  picks_model zero i x l x< = absurd (omega arith)
+  picks_model (suc f) i x l x< = go (node_of a x) refl (arena.formed.named x x<) (λ y y<. picks_model f i y (omega arith) (omega arith))
     where
       left : Bool
       left = eqb (m (nd i x)) 0
@@ -45,8 +45,8 @@ module _ (G : Game) (a : Automaton) (word : ℕ → ℕ) (st nd : ℕ → ℕ �
       into : (n : Node) → node_of a x ≡ n → (M : States) → M ⊆ pick n left (picks f i) → M ⊆ pick (node_of a x) left (picks f i)
       into n e M s q h = ap (λ k. pick k left (picks f i) q) e ∙ s q h
 
-      go : (n : Node) → node_of a x ≡ n → Fits (state-count a) x n → ((y : ℕ) → y < x → Model a (In (picks f i y)) y) → Model a (In (pick (node_of a x) left (picks f i))) x
-      go (Leaf p) e _ rec = by-leaf e (ap (λ k. pick k left (picks f i) p) e ∙ eq-eqb p p refl)
+      go : (n : Node) → node_of a x ≡ n → Fits (state_count a) x n → ((y : ℕ) → y < x → Model a (In (picks f i y)) y) → Model a (In (pick (node_of a x) left (picks f i))) x
+      go (Leaf p) e _ rec = by_leaf e (ap (λ k. pick k left (picks f i) p) e ∙ eq-eqb p p refl)
       go (Either l r) e (l<, r<) rec =
           elim (cases_Bool left) [
             | inl t ↦ by_left e (grows a (In (picks f i l)) _ (into (Either l r) e (picks f i l) (λ q h. cond-true left _ _ t ∙ h)) l (rec l l<))
@@ -58,15 +58,15 @@ module _ (G : Game) (a : Automaton) (word : ℕ → ℕ) (st nd : ℕ → ℕ �
 
   -- whatever player 1 does, the play gets to a picked state
   abbrev Reaches : ℕ → ℕ → ℕ → Type 0
-  Reaches i x q = (q < state-count a) × Walk G m Zero (nd i x) (st (suc i) q)
+  Reaches i x q = (q < state_count a) × Walk G m Zero (nd i x) (st (suc i) q)
 
-  further : (i x y q : ℕ) → y < node-count a → Step G m Zero (nd i x) (nd i y) → Reaches i y q → Reaches i x q
-  further i x y q y< s w = (w.0, first_step G m Zero (nd i x) (nd i y) (st (suc i) q) s (arena.node-high i y y<) w.1)
+  further : (i x y q : ℕ) → y < node_count a → Step G m Zero (nd i x) (nd i y) → Reaches i y q → Reaches i x q
+  further i x y q y< s w = (w.0, first_step G m Zero (nd i x) (nd i y) (st (suc i) q) s (arena.node_high i y y<) w.1)
 
-  picks-reach : (f i x q : ℕ) → x < node-count a → picks f i x q ≡ true → Reaches i x q
+  picks_reach : (f i x q : ℕ) → x < node_count a → picks f i x q ≡ true → Reaches i x q
   unfolding picks
-  picks-reach zero i x q x< h = absurd (both_ways true (sym h) refl)
-  picks-reach (suc f) i x q x< h = go (node_of a x) h (arena.formed.named x x<) (arena.node_at i x x<) (λ y y< h'. picks-reach f i y q y< h')
+  picks_reach zero i x q x< h = absurd (both_ways true (sym h) refl)
+  picks_reach (suc f) i x q x< h = go (node_of a x) h (arena.formed.named x x<) (arena.node_at i x x<) (λ y y< h'. picks_reach f i y q y< h')
     where
       left : Bool
       left = eqb (m (nd i x)) 0
@@ -74,11 +74,11 @@ module _ (G : Game) (a : Automaton) (word : ℕ → ℕ) (st nd : ℕ → ℕ �
       mine : m (nd i x) < G.degree (nd i x)
       mine = legal (nd i x) (arena.node_in i x x<)
 
-      go : (n : Node) → pick n left (picks f i) q ≡ true → Fits (state-count a) x n → Node-at G st nd i x n →
-          ((y : ℕ) → y < node-count a → picks f i y q ≡ true → Reaches i y q) → Reaches i x q
+      go : (n : Node) → pick n left (picks f i) q ≡ true → Fits (state_count a) x n → NodeAt G st nd i x n →
+          ((y : ℕ) → y < node_count a → picks f i y q ≡ true → Reaches i y q) → Reaches i x q
       go (Leaf p) t n at rec =
           let e = eqb-true p q t in
-          (subst (λ k. k < state-count a) e n, last_step G m Zero _ _ (forced G m Zero (nd i x) _ mine at.0 (at.1 ∙ ap (st (suc i)) e)))
+          (subst (λ k. k < state_count a) e n, last_step G m Zero _ _ (forced G m Zero (nd i x) _ mine at.0 (at.1 ∙ ap (st (suc i)) e)))
       go (Either l r) t (l<, r<) at rec =
           elim (cases_eq (m (nd i x)) 0) [
             | inl e ↦ further i x l q (omega arith) (taken G m Zero (nd i x) _ 0 mine e at.2) (rec l (omega arith) (sym (cond-true left _ _ (eq-eqb _ _ e)) ∙ t))
@@ -86,73 +86,73 @@ module _ (G : Game) (a : Automaton) (word : ℕ → ℕ) (st nd : ℕ → ℕ �
           ]
       go (Both l r) t (l<, r<) at rec =
           elim (or_cases (picks f i l q) (picks f i r q) t) [
-            | inl h' ↦ further i x l q (omega arith) (free G m Zero (nd i x) _ 0 (omega (arith, at.1)) at.2 (not-zero at.0)) (rec l (omega arith) h')
-            | inr h' ↦ further i x r q (omega arith) (free G m Zero (nd i x) _ 1 (omega (arith, at.1)) at.3 (not-zero at.0)) (rec r (omega arith) h')
+            | inl h' ↦ further i x l q (omega arith) (free G m Zero (nd i x) _ 0 (omega (arith, at.1)) at.2 (not_zero at.0)) (rec l (omega arith) h')
+            | inr h' ↦ further i x r q (omega arith) (free G m Zero (nd i x) _ 1 (omega (arith, at.1)) at.3 (not_zero at.0)) (rec r (omega arith) h')
           ]
 
   abbrev rule : ℕ → ℕ → ℕ
-  rule i p = rule-node a p (word i)
+  rule i p = rule_node a p (word i)
 
-  rule-in : (i p : ℕ) → p < state-count a → rule i p < node-count a
-  rule-in i p p< = arena.formed.ruled p (word i) p< (arena.reads i)
+  rule_in : (i p : ℕ) → p < state_count a → rule i p < node_count a
+  rule_in i p p< = arena.formed.ruled p (word i) p< (arena.reads i)
 
   abbrev picked : ℕ → ℕ → States
-  picked i p = picks (node-count a) i (rule i p)
+  picked i p = picks (node_count a) i (rule i p)
 
   -- a minimal model of the rule's formula among the picked states
   abbrev Best : ℕ → ℕ → Type 0
-  Best i p = (N : States) × (p < state-count a → (N ⊆ picked i p) × Minimal a N (rule i p))
+  Best i p = (N : States) × (p < state_count a → (N ⊆ picked i p) × Minimal a N (rule i p))
 
   best : (i p : ℕ) → Best i p
-  best i p = elim (cases_lt p (state-count a)) [ inr out ↦ (picked i p, λ h. absurd (omega arith)) | inl h ↦ among h ]
+  best i p = elim (cases_lt p (state_count a)) [ inr out ↦ (picked i p, λ h. absurd (omega arith)) | inl h ↦ among h ]
     where
-      among : p < state-count a → Best i p
+      among : p < state_count a → Best i p
       among h =
-          let x< = rule-in i p h in
-          let r = minimal-inside a arena.formed.named (rule i p) x< (picked i p) (picks-model (node-count a) i (rule i p) x< x<) (state-count a) (λ q e. (picks-reach (node-count a) i (rule i p) q x< e).0) in
+          let x< = rule_in i p h in
+          let r = minimal_inside a arena.formed.named (rule i p) x< (picked i p) (picks_model (node_count a) i (rule i p) x< x<) (state_count a) (λ q e. (picks_reach (node_count a) i (rule i p) q x< e).0) in
           (r.0, λ _. (r.1, r.2))
 
-  best-reach : (i p q : ℕ) → p < state-count a → (best i p).0 q ≡ true → Reaches i (rule i p) q
-  best-reach i p q p< h = picks-reach (node-count a) i (rule i p) q (rule-in i p p<) (((best i p).1 p<).0 q h)
+  best_reach : (i p q : ℕ) → p < state_count a → (best i p).0 q ≡ true → Reaches i (rule i p) q
+  best_reach i p q p< h = picks_reach (node_count a) i (rule i p) q (rule_in i p p<) (((best i p).1 p<).0 q h)
 
-  module _ (start : ℕ) (start< : start < state-count a) where
+  module _ (start : ℕ) (start< : start < state_count a) where
     pub V : ℕ → States
     V zero q = eqb start q
-    V (suc i) q = some_below (state-count a) (λ p. V i p && (best i p).0 q)
+    V (suc i) q = some_below (state_count a) (λ p. V i p && (best i p).0 q)
 
     pub E : ℕ → ℕ → States
     E i p q = V i p && (best i p).0 q
 
-    V-in : (i q : ℕ) → V i q ≡ true → q < state-count a
+    VIn : (i q : ℕ) → V i q ≡ true → q < state_count a
     unfolding V
-    V-in zero q h = subst (λ k. k < state-count a) (eqb-true start q h) start<
-    V-in (suc i) q h =
-        let s = some-gives (state-count a) _ h in
-        (best-reach i s.0 q s.1 (and_parts (V i s.0) _ s.2).1).0
+    VIn zero q h = subst (λ k. k < state_count a) (eqb-true start q h) start<
+    VIn (suc i) q h =
+        let s = some_gives (state_count a) _ h in
+        (best_reach i s.0 q s.1 (and_parts (V i s.0) _ s.2).1).0
 
     pub run : Run a word start V E
     unfolding V E
     run = record {
       starts = eq-eqb start start refl;
       only = λ q h. sym (eqb-true start q h);
-      reached = λ i q h. (let s = some-gives (state-count a) _ h in (s.0, s.2));
+      reached = λ i q h. (let s = some_gives (state_count a) _ h in (s.0, s.2));
       from = λ i p q h. (and_parts (V i p) _ h).0;
-      to = λ i p q h. some-from (state-count a) _ p (V-in i p (and_parts (V i p) _ h).0) h;
-      minimal = λ i p h. subst (λ N. Minimal a N (rule i p)) (λ j q. sym h j && (best i p).0 q) ((best i p).1 (V-in i p h)).1;
+      to = λ i p q h. some_from (state_count a) _ p (VIn i p (and_parts (V i p) _ h).0) h;
+      minimal = λ i p h. subst (λ N. Minimal a N (rule i p)) (λ j q. sym h j && (best i p).0 q) ((best i p).1 (VIn i p h)).1;
     }
 
-    module _ (ρ : ℕ → ℕ) (path : Run-path E start ρ) where
-      ρ< : (i : ℕ) → ρ i < state-count a
-      ρ< i = V-in i (ρ i) (run.from i (ρ i) (ρ (suc i)) (path.goes i))
+    module _ (ρ : ℕ → ℕ) (path : RunPath E start ρ) where
+      ρ< : (i : ℕ) → ρ i < state_count a
+      ρ< i = VIn i (ρ i) (run.from i (ρ i) (ρ (suc i)) (path.goes i))
 
       abbrev head : ℕ → ℕ
       head i = st i (ρ i)
 
       abbrev p : ℕ → ℕ
-      p i = priority-of a (ρ i)
+      p i = priority_of a (ρ i)
 
       priorities : (i : ℕ) → G.priority (head i) ≡ p i
-      priorities i = arena.state-priority i (ρ i) (ρ< i)
+      priorities i = arena.state_priority i (ρ i) (ρ< i)
 
       low : (i : ℕ) → p i < 9999
       low i = omega (arith, arena.formed.low (ρ i) (ρ< i))
@@ -160,25 +160,25 @@ module _ (G : Game) (a : Automaton) (word : ℕ → ℕ) (st nd : ℕ → ℕ �
       walks : (i : ℕ) → Walk G m Zero (head i) (head (suc i))
       unfolding E
       walks i =
-          let s = forced G m Zero (head i) _ (legal _ (arena.state-in i (ρ i) (ρ< i))) (arena.state-degree i (ρ i) (ρ< i)) (arena.state-next i (ρ i) (ρ< i)) in
-          first_step G m Zero _ _ _ s (arena.node-high i _ (rule-in i (ρ i) (ρ< i))) (best-reach i (ρ i) (ρ (suc i)) (ρ< i) (and_parts (V i (ρ i)) _ (path.goes i)).1).1
+          let s = forced G m Zero (head i) _ (legal _ (arena.state_in i (ρ i) (ρ< i))) (arena.state_degree i (ρ i) (ρ< i)) (arena.state_next i (ρ i) (ρ< i)) in
+          first_step G m Zero _ _ _ s (arena.node_high i _ (rule_in i (ρ i) (ρ< i))) (best_reach i (ρ i) (ρ (suc i)) (ρ< i) (and_parts (V i (ρ i)) _ (path.goes i)).1).1
 
       -- the play along a path of the run is one of player 0's moves
-      pub path-even : Winning G Zero (λ past u. m u) (st 0 start) → Least-even a ρ
-      path-even w =
-          let plays = subst (λ q. Play G (st 0 q) (passage G m Zero head p priorities low walks)) path.starts (passage-plays G m Zero head p priorities low walks) in
-          least-even G arena.even-zero a ρ
-          (won-least G m Zero head p priorities low walks Zero (w.wins _ plays (passage-follows G m Zero head p priorities low walks)))
+      pub path_even : Winning G Zero (λ past u. m u) (st 0 start) → LeastEven a ρ
+      path_even w =
+          let plays = subst (λ q. Play G (st 0 q) (passage G m Zero head p priorities low walks)) path.starts (passage_plays G m Zero head p priorities low walks) in
+          least_even G arena.even_zero a ρ
+          (won_least G m Zero head p priorities low walks Zero (w.wins _ plays (passage_follows G m Zero head p priorities low walks)))
 
-pub win-runs : (G : Game) (a : Automaton) (word : ℕ → ℕ) (st nd : ℕ → ℕ → ℕ) → Word-arena G a word st nd →
-    (start : ℕ) → start < state-count a → winner G (st 0 start) ≡ Zero → Accepts a word start
-win-runs G a word st nd arena start start< e = record {
+pub win_runs : (G : Game) (a : Automaton) (word : ℕ → ℕ) (st nd : ℕ → ℕ → ℕ) → WordArena G a word st nd →
+    (start : ℕ) → start < state_count a → winner G (st 0 start) ≡ Zero → Accepts a word start
+win_runs G a word st nd arena start start< e = record {
   vertices = V G a word st nd arena (move G) legal start start<;
   edges = E G a word st nd arena (move G) legal start start<;
   run = run G a word st nd arena (move G) legal start start<;
-  even = λ ρ path. path-even G a word st nd arena (move G) legal start start< ρ path
-      (subst (λ x. Winning G x (reported G) (st 0 start)) e (reported-wins G arena.sound (st 0 start) (arena.state-in 0 start start<)));
+  even = λ ρ path. path_even G a word st nd arena (move G) legal start start< ρ path
+      (subst (λ x. Winning G x (reported G) (st 0 start)) e (reported_wins G arena.sound (st 0 start) (arena.state_in 0 start start<)));
 }
   where
     legal : (u : ℕ) → u < G.count → move G u < G.degree u
-    legal = move-legal G arena.sound
+    legal = move_legal G arena.sound

@@ -2,34 +2,34 @@
 use Rattle.std.proofs.Common.{◌≡◌, ℕ, ◌<◌, ◌≤◌, List, sym, subst, inl, inr, mul-le-mul, arith}
 use Rattle.draft.specs.declared.parts.Node.{Node}
 use Rattle.draft.specs.declared.parts.Node.TheVariants.{Leaf, Either, Both}
-use Rattle.draft.specs.Automaton.{Automaton, state-count, node-count, node_of}
-use Rattle.runs.specs.WordGame.{steps, node-degree, place-priority, place-degree, place_at, word-moves, word-game, word-place}
-use Rattle.runs.specs.WordBounds.{Word-bounds}
+use Rattle.draft.specs.Automaton.{Automaton, state_count, node_count, node_of}
+use Rattle.runs.specs.WordGame.{steps, node_degree, place_priority, place_degree, place_at, word_moves, word_game, word_place}
+use Rattle.runs.specs.WordBounds.{WordBounds}
 use Rattle.runs.proofs.Formed.{formed}
-use Rattle.runs.proofs.Insides.{inside-bounds, inside-elsewhere}
-use Rattle.runs.proofs.WordGames.{word-known, word_sound, state-in}
+use Rattle.runs.proofs.Insides.{inside_bounds, inside_elsewhere}
+use Rattle.runs.proofs.WordGames.{word_known, word_sound, state_in}
 
-node-narrow : (n : Node) → node-degree n ≤ 16
-node-narrow (Leaf q) = omega arith
-node-narrow (Either l r) = omega arith
-node-narrow (Both l r) = omega arith
+node_narrow : (n : Node) → node_degree n ≤ 16
+node_narrow (Leaf q) = omega arith
+node_narrow (Either l r) = omega arith
+node_narrow (Both l r) = omega arith
 
-pub word-bounded : Word-bounds
-word-bounded a w c some prefix period r short =
+pub word_bounded : WordBounds
+word_bounded a w c some prefix period r short =
     let f = formed a w c in
-    let known = word-known a f prefix period r in
-    inside-bounds (word-moves a prefix period) (word_sound a f prefix period r)
-    (let h = state-in a f prefix period r 0 0 (let l = r.some in omega arith) some in omega arith)
-    (let h = mul-le-mul {n₁ = steps prefix period} {m₁ = state-count a} {n₂ = 64} {m₂ = 32} short w.few-states in
-    let h' = mul-le-mul {n₁ = steps prefix period} {m₁ = node-count a} {n₂ = 64} {m₂ = 128} short w.few-nodes in omega arith)
+    let known = word_known a f prefix period r in
+    inside_bounds (word_moves a prefix period) (word_sound a f prefix period r)
+    (let h = state_in a f prefix period r 0 0 (let l = r.some in omega arith) some in omega arith)
+    (let h = mul-le-mul {n₁ = steps prefix period} {m₁ = state_count a} {n₂ = 64} {m₂ = 32} short w.few_states in
+    let h' = mul-le-mul {n₁ = steps prefix period} {m₁ = node_count a} {n₂ = 64} {m₂ = 128} short w.few_nodes in omega arith)
     (λ v v<. elim (known v v<) [
-      | inl (k, q, k<, q<, e) ↦ subst (λ P. place-priority a P ≤ 9999) (sym e) (let l = w.low q q< in omega arith)
-      | inr (k, x, k<, x<, e) ↦ subst (λ P. place-priority a P ≤ 9999) (sym e) (omega arith)
+      | inl (k, q, k<, q<, e) ↦ subst (λ P. place_priority a P ≤ 9999) (sym e) (let l = w.low q q< in omega arith)
+      | inr (k, x, k<, x<, e) ↦ subst (λ P. place_priority a P ≤ 9999) (sym e) (omega arith)
     ])
     (λ v v<. elim (known v v<) [
-      | inl (k, q, k<, q<, e) ↦ subst (λ P. place-degree a P ≤ 16) (sym e) (omega arith)
-      | inr (k, x, k<, x<, e) ↦ subst (λ P. place-degree a P ≤ 16) (sym e) (node-narrow (node_of a x))
+      | inl (k, q, k<, q<, e) ↦ subst (λ P. place_degree a P ≤ 16) (sym e) (omega arith)
+      | inr (k, x, k<, x<, e) ↦ subst (λ P. place_degree a P ≤ 16) (sym e) (node_narrow (node_of a x))
     ])
 
-pub word-elsewhere : (a : Automaton) (prefix period : List ℕ) (v : ℕ) → (word-game a prefix period).count ≤ v → word-place a prefix period v ≡ word-place a prefix period 0
-word-elsewhere a prefix period v h = inside-elsewhere (word-moves a prefix period) (place_at a prefix period) v h
+pub word_elsewhere : (a : Automaton) (prefix period : List ℕ) (v : ℕ) → (word_game a prefix period).count ≤ v → word_place a prefix period v ≡ word_place a prefix period 0
+word_elsewhere a prefix period v h = inside_elsewhere (word_moves a prefix period) (place_at a prefix period) v h

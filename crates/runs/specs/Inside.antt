@@ -7,7 +7,7 @@ use Rattle.parity.specs.declared.player.Player.TheVariants.{Zero}
 abbrev pub inside : Game → Game
 inside G = record {
   count = G.count;
-  even-side = G.even-side;
+  even_side = G.even_side;
   owner = λ v. cond (nat_lt v G.count) (G.owner v) Zero;
   priority = λ v. cond (nat_lt v G.count) (G.priority v) 0;
   degree = λ v. cond (nat_lt v G.count) (G.degree v) 0;
@@ -15,5 +15,5 @@ inside G = record {
 }
 
 -- a number that is no vertex stands where vertex 0 stands
-abbrev pub inside-place : {P : Type 0} → Game → (ℕ → P) → ℕ → P
-inside-place G place v = place (known G.count v)
+abbrev pub inside_place : {P : Type 0} → Game → (ℕ → P) → ℕ → P
+inside_place G place v = place (known G.count v)

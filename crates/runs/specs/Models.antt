@@ -16,7 +16,7 @@ M ⊆ N = (q : ℕ) → In M q → In N q
 
 -- The states of which M holds satisfy the formula of node x. M may be any predicate.
 pub data Model (a : Automaton) (M : ℕ → Type 0) : ℕ → Type 0 where
-  by-leaf : {x q : ℕ} → node_of a x ≡ Leaf q → M q → Model a M x
+  by_leaf : {x q : ℕ} → node_of a x ≡ Leaf q → M q → Model a M x
   by_left : {x l r : ℕ} → node_of a x ≡ Either l r → Model a M l → Model a M x
   by_right : {x l r : ℕ} → node_of a x ≡ Either l r → Model a M r → Model a M x
   by_both : {x l r : ℕ} → node_of a x ≡ Both l r → Model a M l → Model a M r → Model a M x

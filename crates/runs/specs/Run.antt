@@ -1,15 +1,15 @@
 -- Runs of an automaton on an unending word, and acceptance.
 use Rattle.std.specs.Prelude.{◌≡◌, ℕ, suc, ◌%◌, ◌<◌, Some, None, Option}
-use Rattle.draft.specs.Automaton.{Automaton, priority-of, rule-of}
+use Rattle.draft.specs.Automaton.{Automaton, priority_of, rule_of}
 use Rattle.runs.specs.Models.{States, In, Minimal}
 
-abbrev pub node-or-0 : Option ℕ → ℕ
-node-or-0 (Some x) = x
-node-or-0 None = 0
+abbrev pub node_or_0 : Option ℕ → ℕ
+node_or_0 (Some x) = x
+node_or_0 None = 0
 
 -- the node of the rule of a state for a letter, and 0 if it has none
-abbrev pub rule-node : Automaton → ℕ → ℕ → ℕ
-rule-node a q letter = node-or-0 (rule-of a q letter)
+abbrev pub rule_node : Automaton → ℕ → ℕ → ℕ
+rule_node a q letter = node_or_0 (rule_of a q letter)
 
 -- A run on the word from the state `start` is a directed acyclic graph. Its vertices are states at steps: V i q says that state q
 -- at step i is one, and E i p q that an edge leads from state p at step i to state q at step i + 1. The start is the only vertex of
@@ -21,23 +21,23 @@ pub record Run (a : Automaton) (word : ℕ → ℕ) (start : ℕ) (V : ℕ → S
   pub reached : (i q : ℕ) → In (V (suc i)) q → (p : ℕ) × In (E i p) q
   pub from : (i p q : ℕ) → In (E i p) q → In (V i) p
   pub to : (i p q : ℕ) → In (E i p) q → In (V (suc i)) q
-  pub minimal : (i p : ℕ) → In (V i) p → Minimal a (E i p) (rule-node a p (word i))
+  pub minimal : (i p : ℕ) → In (V i) p → Minimal a (E i p) (rule_node a p (word i))
 
 -- ρ is an unending path of the run from its start
-pub record Run-path (E : ℕ → ℕ → States) (start : ℕ) (ρ : ℕ → ℕ) : Type 0 where
+pub record RunPath (E : ℕ → ℕ → States) (start : ℕ) (ρ : ℕ → ℕ) : Type 0 where
   pub starts : ρ 0 ≡ start
   pub goes : (i : ℕ) → In (E i (ρ i)) (ρ (suc i))
 
 -- The smallest priority on the path is even: for each odd priority on it a smaller even one occurs on it too. It is the smallest of
 -- the whole path, not the smallest that recurs.
-abbrev pub Least-even : Automaton → (ℕ → ℕ) → Type 0
-Least-even a ρ =
-    (i : ℕ) → priority-of a (ρ i) % 2 ≡ 1 →
-    (j : ℕ) × (priority-of a (ρ j) < priority-of a (ρ i)) × (priority-of a (ρ j) % 2 ≡ 0)
+abbrev pub LeastEven : Automaton → (ℕ → ℕ) → Type 0
+LeastEven a ρ =
+    (i : ℕ) → priority_of a (ρ i) % 2 ≡ 1 →
+    (j : ℕ) × (priority_of a (ρ j) < priority_of a (ρ i)) × (priority_of a (ρ j) % 2 ≡ 0)
 
 -- the automaton has an accepting run on the word from the state
 pub record Accepts (a : Automaton) (word : ℕ → ℕ) (start : ℕ) : Type 0 where
   pub vertices : ℕ → States
   pub edges : ℕ → ℕ → States
   pub run : Run a word start vertices edges
-  pub even : (ρ : ℕ → ℕ) → Run-path edges start ρ → Least-even a ρ
+  pub even : (ρ : ℕ → ℕ) → RunPath edges start ρ → LeastEven a ρ

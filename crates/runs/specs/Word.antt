@@ -8,5 +8,5 @@ letter prefix period k = cond (nat_lt k (length prefix)) (slice_index prefix k) 
 -- a word over so many letters
 pub record Readable (letters : ℕ) (prefix period : List ℕ) : Type 0 where
   pub some : 0 < length period
-  pub prefix-in : (k : ℕ) → k < length prefix → slice_index prefix k < letters
-  pub period-in : (k : ℕ) → k < length period → slice_index period k < letters
+  pub prefix_in : (k : ℕ) → k < length prefix → slice_index prefix k < letters
+  pub period_in : (k : ℕ) → k < length period → slice_index period k < letters

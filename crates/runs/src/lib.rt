@@ -3,9 +3,9 @@
 mod place;
 
 ghost use Rattle.runs.specs.Accepting.{Accepting};
-ghost use Rattle.runs.specs.Step.{Step-is-rest};
+ghost use Rattle.runs.specs.Step.{StepIsRest};
 ghost use Rattle.runs.specs.Turning.{Turning};
-ghost use Rattle.runs.specs.WordBounds.{Word-bounds};
+ghost use Rattle.runs.specs.WordBounds.{WordBounds};
 
 pub use place::WordPlace;
 
@@ -21,10 +21,10 @@ pub fn turning()
 
 // The word game of a word with at most 64 letters is one that an arena may mean.
 pub fn word_bounds()
-    ensures { Word-bounds }
+    ensures { WordBounds }
 {}
 
 // What `step` answers is not empty, and holds the letters of the word from the one asked for on.
 pub fn step_is_rest()
-    ensures { Step-is-rest }
+    ensures { StepIsRest }
 {}

@@ -9,61 +9,61 @@ use Rattle.parity.specs.declared.player.Player.TheVariants.{Zero, One}
 use Rattle.game.specs.Outcomes.{solved}
 use Rattle.game.specs.declared.outcome.Outcome.{Outcome}
 use Rattle.draft.specs.Automaton.{Automaton}
-use Rattle.draft.specs.Calls.{turned, can-turn, turn-over}
-use Rattle.draft.specs.WellFormed.{Well-formed}
-use Rattle.runs.specs.WordGame.{steps, word-game}
-use Rattle.runs.specs.Accepting.{word-winner}
-use Rattle.runs.proofs.Dual.{states-same, nodes-same, complete-same}
+use Rattle.draft.specs.Calls.{turned, can_turn, turn_over}
+use Rattle.draft.specs.WellFormed.{WellFormed}
+use Rattle.runs.specs.WordGame.{steps, word_game}
+use Rattle.runs.specs.Accepting.{word_winner}
+use Rattle.runs.proofs.Dual.{states_same, nodes_same, complete_same}
 use Rattle.runs.proofs.Turned.{turning}
-use Rattle.word.specs.Asking.{letters-known, in_order, asked}
-use Rattle.word.specs.Answer.{verdict-of, once-solved, once-asked, accept-answer}
+use Rattle.word.specs.Asking.{letters_known, in_order, asked}
+use Rattle.word.specs.Answer.{verdict_of, once_solved, once_asked, accept_answer}
 use Rattle.word.specs.Readables.{readable}
-use Rattle.word.specs.TurnOpposes.{opposed, Turn-opposes}
+use Rattle.word.specs.TurnOpposes.{opposed, TurnOpposes}
 use Rattle.word.specs.Verdicts.{opposite}
 use Rattle.word.specs.declared.verdict.Verdict.{Verdict}
 use Rattle.word.proofs.Asked.{answered}
 
-other-verdict : (x : Player) → verdict-of (other x) ≡ opposite (verdict-of x)
-other-verdict Zero = refl
-other-verdict One = refl
+other_verdict : (x : Player) → verdict_of (other x) ≡ opposite (verdict_of x)
+other_verdict Zero = refl
+other_verdict One = refl
 
 module _ (a : Automaton) (q : ℕ) (prefix period : List ℕ) where
-  asked-same : asked (turned a) q prefix period ≡ asked a q prefix period
-  asked-same =
-      λ i. in_order (complete-same a i) (ltb q (states-same a i)) (ltb 0 (length period) && leb (steps prefix period) 64)
-      (letters-known a.letters prefix && letters-known a.letters period)
+  asked_same : asked (turned a) q prefix period ≡ asked a q prefix period
+  asked_same =
+      λ i. in_order (complete_same a i) (ltb q (states_same a i)) (ltb 0 (length period) && leb (steps prefix period) 64)
+      (letters_known a.letters prefix && letters_known a.letters period)
 
-  count_same : (word-game (turned a) prefix period).count ≡ (word-game a prefix period).count
-  count_same = λ i. steps prefix period * states-same a i + steps prefix period * nodes-same a i
+  count_same : (word_game (turned a) prefix period).count ≡ (word_game a prefix period).count
+  count_same = λ i. steps prefix period * states_same a i + steps prefix period * nodes_same a i
 
   -- whether there is room, and the verdict if so
-  by-room : (x y : Verdict) (b c : Bool) (old new old' new' : List Outcome) → b ≡ c → x ≡ opposite y → (once-solved x (cond c (Ok tt, new') (Err Room, old'))).0 ≡ opposed (once-solved y (cond b (Ok tt, new) (Err Room, old))).0
-  by-room x y true true old new old' new' same e = ap Ok e
-  by-room x y false false old new old' new' same e = refl
-  by-room x y true false old new old' new' same e = absurd (both_ways true (same) refl)
-  by-room x y false true old new old' new' same e = absurd (both_ways true (sym same) refl)
+  by_room : (x y : Verdict) (b c : Bool) (old new old' new' : List Outcome) → b ≡ c → x ≡ opposite y → (once_solved x (cond c (Ok tt, new') (Err Room, old'))).0 ≡ opposed (once_solved y (cond b (Ok tt, new) (Err Room, old))).0
+  by_room x y true true old new old' new' same e = ap Ok e
+  by_room x y false false old new old' new' same e = refl
+  by_room x y true false old new old' new' same e = absurd (both_ways true (same) refl)
+  by_room x y false true old new old' new' same e = absurd (both_ways true (sym same) refl)
 
-  module _ (w : Well-formed a) (before after : List Outcome) (same : length after ≡ length before) where
-    after-asked : (r : Result (Unit {0}) Refusal) → asked a q prefix period ≡ r → (once-asked r (once-solved (verdict-of (word-winner (turned a) prefix period q)) (solved (word-game (turned a) prefix period) after)) after).0 ≡ opposed (once-asked r (once-solved (verdict-of (word-winner a prefix period q)) (solved (word-game a prefix period) before)) before).0
-    after-asked (Err e) is = refl
-    after-asked (Ok tt) is =
+  module _ (w : WellFormed a) (before after : List Outcome) (same : length after ≡ length before) where
+    after_asked : (r : Result (Unit {0}) Refusal) → asked a q prefix period ≡ r → (once_asked r (once_solved (verdict_of (word_winner (turned a) prefix period q)) (solved (word_game (turned a) prefix period) after)) after).0 ≡ opposed (once_asked r (once_solved (verdict_of (word_winner a prefix period q)) (solved (word_game a prefix period) before)) before).0
+    after_asked (Err e) is = refl
+    after_asked (Ok tt) is =
         let y = answered a q prefix period is in
         let r = readable a.letters prefix period y.some y.known in
         let won = (turning a w y.complete prefix period r q y.state).0 in
-        let room : leb (word-game a prefix period).count (length before) ≡ leb (word-game (turned a) prefix period).count (length after) = ap₂ leb (sym count_same) (sym same) in
-        by-room _ _ (leb (word-game a prefix period).count (length before)) (leb (word-game (turned a) prefix period).count (length after)) before _ after _ room (ap verdict-of won ∙ other-verdict (word-winner a prefix period q))
+        let room : leb (word_game a prefix period).count (length before) ≡ leb (word_game (turned a) prefix period).count (length after) = ap₂ leb (sym count_same) (sym same) in
+        by_room _ _ (leb (word_game a prefix period).count (length before)) (leb (word_game (turned a) prefix period).count (length after)) before _ after _ room (ap verdict_of won ∙ other_verdict (word_winner a prefix period q))
 
-    opposed-answer : (accept-answer (turned a) q prefix period after).0 ≡ opposed (accept-answer a q prefix period before).0
-    opposed-answer =
-        ap (λ r. (once-asked r (once-solved (verdict-of (word-winner (turned a) prefix period q)) (solved (word-game (turned a) prefix period) after)) after).0) asked-same
-        ∙ after-asked (asked a q prefix period) refl
+    opposed_answer : (accept_answer (turned a) q prefix period after).0 ≡ opposed (accept_answer a q prefix period before).0
+    opposed_answer =
+        ap (λ r. (once_asked r (once_solved (verdict_of (word_winner (turned a) prefix period q)) (solved (word_game (turned a) prefix period) after)) after).0) asked_same
+        ∙ after_asked (asked a q prefix period) refl
 
 -- a heeded turn gives the turned automaton
 heeded : (b : Bool) (a t : Automaton) (o : Result (Unit {0}) Refusal × Automaton) → o ≡ cond b (Ok tt, t) (Err Top, a) → o.0 ≡ Ok tt → o.1 ≡ t
 heeded true a t o is e = ap (λ x. x.1) is
 heeded false a t o is e = absurd (let f : ◌≡◌ {A = Result (Unit {0}) Refusal} (Ok tt) (Err Top) = sym e ∙ ap (λ x. x.0) is in let z : ◌≡◌ {A = ℕ} 0 1 = cc in omega arith)
 
-pub turn-opposes : Turn-opposes
-turn-opposes a w ok q prefix period before after same =
-    ap (λ t. (accept-answer t q prefix period after).0) (heeded (can-turn a.states) a (turned a) (turn-over a) refl ok)
-    ∙ opposed-answer a q prefix period w before after same
+pub turn_opposes : TurnOpposes
+turn_opposes a w ok q prefix period before after same =
+    ap (λ t. (accept_answer t q prefix period after).0) (heeded (can_turn a.states) a (turned a) (turn_over a) refl ok)
+    ∙ opposed_answer a q prefix period w before after same

@@ -2,8 +2,8 @@
 ghost use Rattle.std.specs.Prelude.{◌≡◌};
 ghost use Rattle.draft.specs.Meaning.{meaning as automaton};
 ghost use Rattle.runs.specs.Word.{letter};
-ghost use Rattle.word.specs.Answer.{verdict-of, accept-answer, Judged};
-ghost use Rattle.word.specs.TurnOpposes.{Turn-opposes};
+ghost use Rattle.word.specs.Answer.{verdict_of, accept_answer, Judged};
+ghost use Rattle.word.specs.TurnOpposes.{TurnOpposes};
 
 use crate::verdict::Verdict;
 use crate::word::{ask, make};
@@ -21,9 +21,9 @@ pub fn accept<'a>(
     period: &'a [u8],
     out: &mut [Outcome],
 ) -> Result<Verdict, Refusal>
-    ensures answer { (result, out.new) ≡ accept-answer (automaton draft.now) state prefix.now period.now out.old }
+    ensures answer { (result, out.new) ≡ accept_answer (automaton draft.now) state prefix.now period.now out.old }
     ensures judged { Judged result (automaton draft.now) (letter prefix.now period.now) state }
-    ensures turned { Turn-opposes }
+    ensures turned { TurnOpposes }
 {
     decide(draft, state, prefix, period, out)
 }
@@ -36,7 +36,7 @@ fn decide<'a>(
     period: &'a [u8],
     out: &mut [Outcome],
 ) -> Result<Verdict, Refusal>
-    ensures { (result, out.new) ≡ accept-answer (automaton draft.now) state prefix.now period.now out.old }
+    ensures { (result, out.new) ≡ accept_answer (automaton draft.now) state prefix.now period.now out.old }
 {
     ask(draft, state, prefix, period)?;
     let arena = make(draft, state, prefix, period);
@@ -45,7 +45,7 @@ fn decide<'a>(
 }
 
 fn verdict(winner: Player) -> Verdict
-    ensures { result ≡ verdict-of winner }
+    ensures { result ≡ verdict_of winner }
 {
     match winner {
         Player::Zero => Verdict::Accepted,

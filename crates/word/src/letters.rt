@@ -2,7 +2,7 @@
 ghost use Rattle.std.specs.Prelude.{◌≡◌, ◌<◌, length};
 ghost use Rattle.runs.specs.Word.{letter};
 ghost use Rattle.word.specs.Stepping.{stepped, shown};
-ghost use Rattle.word.specs.Asking.{letters-known};
+ghost use Rattle.word.specs.Asking.{letters_known};
 
 use refusal::Refusal;
 
@@ -34,7 +34,7 @@ pub(crate) fn letter_at(prefix: &[u8], period: &[u8], k: usize) -> u8
 
 // Whether each letter of a piece is below the number of letters.
 pub(crate) fn all_known(letters: u8, piece: &[u8]) -> bool
-    ensures { result ≡ letters-known letters piece.now }
+    ensures { result ≡ letters_known letters piece.now }
 {
     for letter in piece {
         if *letter >= letters {

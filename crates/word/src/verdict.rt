@@ -1,6 +1,6 @@
 // What accept says of a word.
 ghost use Rattle.std.specs.Prelude.{◌≡◌};
-ghost use Rattle.word.specs.Verdicts.{verdict-number};
+ghost use Rattle.word.specs.Verdicts.{verdict_number};
 
 #[derive(Clone, Copy, PartialEq, Debug)]
 pub enum Verdict {
@@ -11,7 +11,7 @@ pub enum Verdict {
 impl Verdict {
     // 0 or 1.
     pub fn number(self) -> u8
-        ensures { result ≡ verdict-number self }
+        ensures { result ≡ verdict_number self }
     {
         self as u8
     }

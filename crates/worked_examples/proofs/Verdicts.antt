@@ -6,33 +6,33 @@ use Rattle.parity.specs.declared.player.Player.{Player}
 use Rattle.game.specs.Outcomes.{solved}
 use Rattle.game.specs.declared.outcome.Outcome.{Outcome}
 use Rattle.draft.specs.Automaton.{Automaton}
-use Rattle.draft.specs.Calls.{turned, turn-over}
-use Rattle.draft.specs.WellFormed.{Well-formed}
-use Rattle.runs.specs.WordGame.{steps, word-game}
-use Rattle.runs.specs.Accepting.{word-winner}
-use Rattle.runs.proofs.Dual.{states-same, nodes-same}
+use Rattle.draft.specs.Calls.{turned, turn_over}
+use Rattle.draft.specs.WellFormed.{WellFormed}
+use Rattle.runs.specs.WordGame.{steps, word_game}
+use Rattle.runs.specs.Accepting.{word_winner}
+use Rattle.runs.proofs.Dual.{states_same, nodes_same}
 use Rattle.word.specs.Asking.{asked}
-use Rattle.word.specs.Answer.{verdict-of, once-asked, once-solved, accept-answer}
+use Rattle.word.specs.Answer.{verdict_of, once_asked, once_solved, accept_answer}
 use Rattle.word.specs.TurnOpposes.{opposed}
 use Rattle.word.specs.Verdicts.{opposite}
 use Rattle.word.specs.declared.verdict.Verdict.{Verdict}
-use Rattle.word.proofs.Opposed.{turn-opposes}
+use Rattle.word.proofs.Opposed.{turn_opposes}
 use Rattle.worked_examples.specs.Answered.{Answers}
 
 module _ (a : Automaton) (q : ℕ) (prefix period : List ℕ) where
   -- player 0's win is acceptance, where no question is answered no
-  pub answers_by : (x : Player) → asked a q prefix period ≡ Ok tt → word-winner a prefix period q ≡ x → Answers a q prefix period (verdict-of x)
+  pub answers_by : (x : Player) → asked a q prefix period ≡ Ok tt → word_winner a prefix period q ≡ x → Answers a q prefix period (verdict_of x)
   answers_by x allowed won records room =
-      let G = word-game a prefix period in
-      let verdict = verdict-of (word-winner a prefix period q) in
-      ap (λ (r : Result (Unit {0}) Refusal). (once-asked r (once-solved verdict (solved G records)) records).0) allowed
-      ∙ ap (λ (s : Result (Unit {0}) Refusal × List Outcome). (once-solved verdict s).0) (cond-true (leb G.count (length records)) _ _ (le-leb G.count (length records) room))
-      ∙ ap (λ (y : Player). Ok (verdict-of y)) won
+      let G = word_game a prefix period in
+      let verdict = verdict_of (word_winner a prefix period q) in
+      ap (λ (r : Result (Unit {0}) Refusal). (once_asked r (once_solved verdict (solved G records)) records).0) allowed
+      ∙ ap (λ (s : Result (Unit {0}) Refusal × List Outcome). (once_solved verdict s).0) (cond-true (leb G.count (length records)) _ _ (le-leb G.count (length records) room))
+      ∙ ap (λ (y : Player). Ok (verdict_of y)) won
 
   -- the turned automaton has as many vertices, and gives the other verdict
-  pub turned_by : (v : Verdict) → Well-formed a → turn-over a ≡ (Ok tt, turned a) → Answers a q prefix period v → Answers (turned a) q prefix period (opposite v)
+  pub turned_by : (v : Verdict) → WellFormed a → turn_over a ≡ (Ok tt, turned a) → Answers a q prefix period v → Answers (turned a) q prefix period (opposite v)
   turned_by v w turns answers records room =
-      let counts : (word-game (turned a) prefix period).count ≡ (word-game a prefix period).count = (λ i. steps prefix period * states-same a i + steps prefix period * nodes-same a i) in
-      ap (λ t. (accept-answer t q prefix period records).0) (sym (ap (λ (o : Result (Unit {0}) Refusal × Automaton). o.1) turns))
-      ∙ turn-opposes a w (ap (λ (o : Result (Unit {0}) Refusal × Automaton). o.0) turns) q prefix period records records refl
+      let counts : (word_game (turned a) prefix period).count ≡ (word_game a prefix period).count = (λ i. steps prefix period * states_same a i + steps prefix period * nodes_same a i) in
+      ap (λ t. (accept_answer t q prefix period records).0) (sym (ap (λ (o : Result (Unit {0}) Refusal × Automaton). o.1) turns))
+      ∙ turn_opposes a w (ap (λ (o : Result (Unit {0}) Refusal × Automaton). o.0) turns) q prefix period records records refl
       ∙ ap opposed (answers records (subst (λ n. n ≤ length records) counts room))

@@ -5,4 +5,4 @@ use Rattle.parity.specs.Grading.{winner}
 use Rattle.parity.proofs.Tabled.{entry, Tabled}
 
 pub won : {G : Game} {gs ds : List ℕ} {v : ℕ} → Tabled G gs ds v → winner G v ≡ favoured G (entry gs v)
-won {G} t = ap (favoured G) t.grade-at
+won {G} t = ap (favoured G) t.grade_at

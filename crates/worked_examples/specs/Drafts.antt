@@ -24,15 +24,15 @@ abbrev pub rule : ℕ → ℕ → ℕ → List ℕ
 rule q letter node = call 5 letter q node
 
 -- a state with rules for the first letter, and for the first two
-abbrev pub one-rule : ℕ → ℕ → State
-one-rule priority x = record { priority = priority; rules = Some x ∷ replicate 15 None }
+abbrev pub one_rule : ℕ → ℕ → State
+one_rule priority x = record { priority = priority; rules = Some x ∷ replicate 15 None }
 
-abbrev pub two-rules : ℕ → ℕ → ℕ → State
-two-rules priority x y = record { priority = priority; rules = Some x ∷ Some y ∷ replicate 14 None }
+abbrev pub two_rules : ℕ → ℕ → ℕ → State
+two_rules priority x y = record { priority = priority; rules = Some x ∷ Some y ∷ replicate 14 None }
 
 -- one letter: state 0 has the rule "0 or 1", state 1 the rule "0 and 1"
-abbrev pub branching-bytes : List ℕ
-branching-bytes =
+abbrev pub branching_bytes : List ℕ
+branching_bytes =
     state 2 ++ state 1
     ++ leaf 0 ++ leaf 1 ++ either 0 1 ++ both 0 1
     ++ rule 0 0 2 ++ rule 1 0 3
@@ -40,7 +40,7 @@ branching-bytes =
 abbrev pub branching : Automaton
 branching = record {
   letters = 1;
-  states = one-rule 2 2 ∷ one-rule 1 3 ∷ [];
+  states = one_rule 2 2 ∷ one_rule 1 3 ∷ [];
   nodes = Leaf 0 ∷ Leaf 1 ∷ Either 0 1 ∷ Both 0 1 ∷ [];
 }
 
@@ -53,8 +53,8 @@ take = 1
 
 -- a mailbox with one place: empty in state 0, full in state 1; a post to the full one or a take from the empty one leads to
 -- state 2, which it never leaves, and rejects
-abbrev pub mailbox-bytes : List ℕ
-mailbox-bytes =
+abbrev pub mailbox_bytes : List ℕ
+mailbox_bytes =
     state 2 ++ state 2 ++ state 1
     ++ leaf 0 ++ leaf 1 ++ leaf 2
     ++ rule 0 post 1 ++ rule 1 post 2 ++ rule 2 post 2
@@ -63,13 +63,13 @@ mailbox-bytes =
 abbrev pub mailbox : Automaton
 mailbox = record {
   letters = 2;
-  states = two-rules 2 1 2 ∷ two-rules 2 2 0 ∷ two-rules 1 2 2 ∷ [];
+  states = two_rules 2 1 2 ∷ two_rules 2 2 0 ∷ two_rules 1 2 2 ∷ [];
   nodes = Leaf 0 ∷ Leaf 1 ∷ Leaf 2 ∷ [];
 }
 
 -- accepts from state 0 the words that have a post
-abbrev pub posted-bytes : List ℕ
-posted-bytes =
+abbrev pub posted_bytes : List ℕ
+posted_bytes =
     state 1 ++ state 0
     ++ leaf 0 ++ leaf 1
     ++ rule 0 post 1 ++ rule 1 post 1
@@ -78,6 +78,6 @@ posted-bytes =
 abbrev pub posted : Automaton
 posted = record {
   letters = 2;
-  states = two-rules 1 1 0 ∷ two-rules 0 1 1 ∷ [];
+  states = two_rules 1 1 0 ∷ two_rules 0 1 1 ∷ [];
   nodes = Leaf 0 ∷ Leaf 1 ∷ [];
 }

@@ -1,6 +1,6 @@
 // The answers of a stored arena.
-ghost use Rattle.arena.specs.Stored.{stored-game, record-number};
-ghost use Rattle.arena.specs.StoredBounds.{stored-bounds, stored-elsewhere};
+ghost use Rattle.arena.specs.Stored.{stored_game, record_number};
+ghost use Rattle.arena.specs.StoredBounds.{stored_bounds, stored_elsewhere};
 
 use super::maker::word_at;
 use super::{RecordNumber, Stored};
@@ -10,13 +10,13 @@ use parity::Player;
 impl Arena for Stored<'_> {
     type Place = RecordNumber;
 
-    ghost meaning = { λ s. stored-game s.bytes.now s.count };
+    ghost meaning = { λ s. stored_game s.bytes.now s.count };
 
-    ghost places = { λ s v. record-number s.count v };
+    ghost places = { λ s v. record_number s.count v };
 
-    ghost bounds = { λ s. stored-bounds s.bytes.now s.count s.each s.some s.few };
+    ghost bounds = { λ s. stored_bounds s.bytes.now s.count s.each s.some s.few };
 
-    ghost elsewhere = { λ s v h. stored-elsewhere s.count v h };
+    ghost elsewhere = { λ s v h. stored_elsewhere s.count v h };
 
     fn count(&self) -> usize {
         self.count

@@ -1,6 +1,6 @@
 // Asks whether bytes are a stored arena, and makes it.
 ghost use Rattle.std.specs.Prelude.{◌≡◌, ◌+◌, ◌*◌, ◌≤◌, length, Ok};
-ghost use Rattle.arena.specs.Records.{word, record-refusal};
+ghost use Rattle.arena.specs.Records.{word, record_refusal};
 ghost use Rattle.arena.specs.Stored.{asked};
 
 use super::{Stored, StoredFault};
@@ -17,7 +17,7 @@ pub(crate) fn word_at(bytes: &[u8], i: usize) -> u16
 // Why record v is none of an arena of n vertices, if so.
 fn refusal_at(bytes: &[u8], n: usize, v: usize) -> Option<Refusal>
     requires { 8 * v + 8 ≤ length bytes.now }
-    ensures { result ≡ record-refusal bytes.now n v }
+    ensures { result ≡ record_refusal bytes.now n v }
 {
     if bytes[8 * v] > 1 || bytes[8 * v + 1] != 0 {
         return Some(Refusal::VertexOwner);

@@ -1,7 +1,7 @@
 -- Both files were loaded.
 use Rattle.std.proofs.Common.{◌∙◌, ap₂}
-use Rattle.colvaje_host.specs.HostAnswer.{once-loaded}
+use Rattle.colvaje_host.specs.HostAnswer.{once_loaded}
 use Rattle.colvaje_host.proofs.load_both.Goals as goal
 
 pub returns : goal.returns
-returns c = c.compare.ensures ∙ ap₂ (λ x y. once-loaded x y c.args.first-state c.args.second-state) c.in-default.ensures c.in-default-load.ensures
+returns c = c.compare.ensures ∙ ap₂ (λ x y. once_loaded x y c.args.first-state c.args.second-state) c.in-default.ensures c.in-default-load.ensures

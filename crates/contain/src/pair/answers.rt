@@ -2,10 +2,10 @@
 ghost use Rattle.std.specs.Prelude.{◌≡◌, ◌<◌};
 ghost use Rattle.std.proofs.Common.{arith};
 ghost use Rattle.draft.specs.Meaning.{meaning as automaton};
-ghost use Rattle.inclusion.specs.PairGame.{pair_of, nodes-at, pair-game, pair_place};
-ghost use Rattle.inclusion.proofs.PairBounded.{pair-elsewhere};
-ghost use Rattle.contain.specs.Moving.{states-move, nodes-move};
-ghost use Rattle.contain.specs.PairArenaBounds.{arena-bounds};
+ghost use Rattle.inclusion.specs.PairGame.{pair_of, nodes_at, pair_game, pair_place};
+ghost use Rattle.inclusion.proofs.PairBounded.{pair_elsewhere};
+ghost use Rattle.contain.specs.Moving.{states_move, nodes_move};
+ghost use Rattle.contain.specs.PairArenaBounds.{arena_bounds};
 
 use super::PairArena;
 use super::grid::{join, split};
@@ -31,14 +31,14 @@ impl PairArena<'_> {
 
     // The vertex of two nodes.
     fn nodes_at(&self, x: u8, y: u8) -> usize
-        ensures { result ≡ nodes-at (automaton self.now.first.now) (automaton self.now.second.now) x y }
+        ensures { result ≡ nodes_at (automaton self.now.first.now) (automaton self.now.second.now) x y }
     {
         self.stated + join(x, self.nodes, y)
     }
 
     // Where two states lead: a letter leads to the nodes of both rules.
     fn from_states(&self, p: u8, q: u8, i: usize) -> usize
-        ensures { result ≡ states-move (automaton self.now.first.now) (automaton self.now.second.now) p q i }
+        ensures { result ≡ states_move (automaton self.now.first.now) (automaton self.now.second.now) p q i }
     {
         if i >= self.letters as usize {
             return 0;
@@ -51,7 +51,7 @@ impl PairArena<'_> {
 
     // Where two nodes lead: one moves to its left, then its right, and the other stays; two leaves lead to their states.
     fn from_nodes(&self, x: u8, y: u8, i: usize) -> usize
-        ensures { result ≡ nodes-move (automaton self.now.first.now) (automaton self.now.second.now) x y i }
+        ensures { result ≡ nodes_move (automaton self.now.first.now) (automaton self.now.second.now) x y i }
     {
         let first = self.first.node_at(x as usize);
         let second = self.second.node_at(y as usize);
@@ -71,13 +71,13 @@ impl PairArena<'_> {
 impl Arena for PairArena<'_> {
     type Place = PairPlace;
 
-    ghost meaning = { λ w. pair-game (automaton w.first.now) (automaton w.second.now) };
+    ghost meaning = { λ w. pair_game (automaton w.first.now) (automaton w.second.now) };
 
     ghost places = { λ w v. pair_place (automaton w.first.now) (automaton w.second.now) v };
 
-    ghost bounds = { λ w. arena-bounds w.first.now w.second.now w.first_complete w.second_complete w.same_letters w.some_first (omega (arith, w.some_state, w.states_are)) };
+    ghost bounds = { λ w. arena_bounds w.first.now w.second.now w.first_complete w.second_complete w.same_letters w.some_first (omega (arith, w.some_state, w.states_are)) };
 
-    ghost elsewhere = { λ w v h. pair-elsewhere (automaton w.first.now) (automaton w.second.now) v h };
+    ghost elsewhere = { λ w v h. pair_elsewhere (automaton w.first.now) (automaton w.second.now) v h };
 
     fn count(&self) -> usize {
         self.count

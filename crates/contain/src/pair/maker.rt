@@ -1,7 +1,7 @@
 // Asks whether two drafts can be compared, and makes their arena.
 ghost use Rattle.std.specs.Prelude.{◌≡◌, Ok};
 ghost use Rattle.draft.specs.Meaning.{meaning as automaton};
-ghost use Rattle.contain.specs.Answers.{of-draft};
+ghost use Rattle.contain.specs.Answers.{of_draft};
 ghost use Rattle.contain.specs.Asking.{asked};
 
 use super::PairArena;
@@ -46,7 +46,7 @@ pub fn ask(
 
 // A refusal of one draft.
 fn of(which: Which, refusal: Refusal) -> ContainFault
-    ensures { result ≡ of-draft which refusal }
+    ensures { result ≡ of_draft which refusal }
 {
     ContainFault {
         refusal,

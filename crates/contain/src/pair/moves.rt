@@ -1,12 +1,12 @@
 // Two nodes side by side: who is to move, and which of the two moves.
 ghost use Rattle.std.specs.Prelude.{◌≡◌, ◌≤◌};
-ghost use Rattle.inclusion.specs.PairGame.{is-either, is-both, one-moves, first-moves, second-moves, pair-owner, pair-degree, pair-priority, part};
+ghost use Rattle.inclusion.specs.PairGame.{is_either, is_both, one_moves, first_moves, second_moves, pair_owner, pair_degree, pair_priority, part};
 
 use draft::Node;
 use parity::Player;
 
 fn is_either(node: Node) -> bool
-    ensures { result ≡ is-either node }
+    ensures { result ≡ is_either node }
 {
     match node {
         Node::Leaf(_) => false,
@@ -16,7 +16,7 @@ fn is_either(node: Node) -> bool
 }
 
 fn is_both(node: Node) -> bool
-    ensures { result ≡ is-both node }
+    ensures { result ≡ is_both node }
 {
     match node {
         Node::Leaf(_) => false,
@@ -27,14 +27,14 @@ fn is_both(node: Node) -> bool
 
 // Player 1 moves in the first draft at either, and in the second at both.
 fn one_moves(x: Node, y: Node) -> bool
-    ensures { result ≡ one-moves x y }
+    ensures { result ≡ one_moves x y }
 {
     is_either(x) || is_both(y)
 }
 
 // Whether the first draft's node moves.
 pub(crate) fn first_moves(x: Node, y: Node) -> bool
-    ensures { result ≡ first-moves x y }
+    ensures { result ≡ first_moves x y }
 {
     if one_moves(x, y) {
         is_either(x)
@@ -45,7 +45,7 @@ pub(crate) fn first_moves(x: Node, y: Node) -> bool
 
 // Whether the second draft's node moves.
 pub(crate) fn second_moves(x: Node, y: Node) -> bool
-    ensures { result ≡ second-moves x y }
+    ensures { result ≡ second_moves x y }
 {
     if one_moves(x, y) {
         is_both(y)
@@ -55,7 +55,7 @@ pub(crate) fn second_moves(x: Node, y: Node) -> bool
 }
 
 pub(crate) fn owner_of(x: Node, y: Node) -> Player
-    ensures { result ≡ pair-owner x y }
+    ensures { result ≡ pair_owner x y }
 {
     if one_moves(x, y) {
         Player::One
@@ -66,7 +66,7 @@ pub(crate) fn owner_of(x: Node, y: Node) -> Player
 
 // Two moves for each node that moves; two leaves have one.
 pub(crate) fn degree_of(x: Node, y: Node) -> usize
-    ensures { result ≡ pair-degree x y }
+    ensures { result ≡ pair_degree x y }
 {
     match (first_moves(x, y), second_moves(x, y)) {
         (true, true) => 4,
@@ -90,7 +90,7 @@ pub(crate) fn part(node: Node, i: usize) -> u8
 // The priority of a pair of states: even where the first is odd or the second even.
 pub(crate) fn priority_of(p: u16, q: u16) -> u16
     requires { (p ≤ 999) × (q ≤ 999) }
-    ensures { result ≡ pair-priority p q }
+    ensures { result ≡ pair_priority p q }
 {
     let sum = 2 * (p + q);
     if p % 2 == 1 || q % 2 == 0 {

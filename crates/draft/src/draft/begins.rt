@@ -1,8 +1,8 @@
 // How a draft begins, and its states.
 ghost use Rattle.std.specs.Prelude.{◌≡◌, ◌≤◌, IfOk};
 ghost use Rattle.draft.specs.Automaton.{empty};
-ghost use Rattle.draft.specs.Calls.{letters-fit, begin-with, add-state};
-ghost use Rattle.draft.specs.History.{Histories-keep};
+ghost use Rattle.draft.specs.Calls.{letters_fit, begin_with, add_state};
+ghost use Rattle.draft.specs.History.{HistoriesKeep};
 ghost use Rattle.draft.specs.Meaning.{meaning};
 
 use super::Draft;
@@ -12,7 +12,7 @@ use std::alloc::{AllocError, Global};
 
 // Whether a draft can have so many letters.
 pub(crate) fn letters_fit(letters: u32) -> bool
-    ensures { result ≡ letters-fit letters }
+    ensures { result ≡ letters_fit letters }
 {
     letters >= 1 && letters <= 16
 }
@@ -22,7 +22,7 @@ impl Draft {
     // that calls make from a new one.
     pub fn new(heap: Global) -> Result<Draft, AllocError>
         ensures made { IfOk result (λ d. meaning d ≡ empty 1) }
-        ensures kept { Histories-keep }
+        ensures kept { HistoriesKeep }
     {
         let states = Vec::with_capacity(heap, 32)?;
         let nodes = Vec::with_capacity(heap, 128)?;
@@ -35,7 +35,7 @@ impl Draft {
 
     // Empties the draft and sets its letters.
     pub fn begin(&mut self, letters: u32) -> Result<(), Refusal>
-        ensures { (result, meaning self.new) ≡ begin-with (meaning self.old) letters }
+        ensures { (result, meaning self.new) ≡ begin_with (meaning self.old) letters }
     {
         if !letters_fit(letters) {
             return Err(Refusal::Letters);
@@ -56,7 +56,7 @@ impl Draft {
 
     // Adds a state with no rules, and answers its number.
     pub fn state(&mut self, priority: u16) -> Result<u8, Refusal>
-        ensures { (result, meaning self.new) ≡ add-state (meaning self.old) priority }
+        ensures { (result, meaning self.new) ≡ add_state (meaning self.old) priority }
     {
         if priority > 999 {
             return Err(Refusal::Priority);

@@ -1,7 +1,7 @@
 // The nodes of a draft.
 ghost use Rattle.std.specs.Prelude.{◌≡◌};
-ghost use Rattle.draft.specs.Automaton.{state-count, node-count, node_of};
-ghost use Rattle.draft.specs.Calls.{add-node, add-leaf, are-nodes, add-either, add-both};
+ghost use Rattle.draft.specs.Automaton.{state_count, node_count, node_of};
+ghost use Rattle.draft.specs.Calls.{add_node, add_leaf, are_nodes, add_either, add_both};
 ghost use Rattle.draft.specs.Meaning.{meaning};
 ghost use Rattle.draft.specs.WellFormed.{Fits};
 
@@ -12,7 +12,7 @@ use refusal::Refusal;
 impl Draft {
     // Adds the leaf of a state, and answers its number.
     pub fn leaf(&mut self, state: u16) -> Result<u8, Refusal>
-        ensures { (result, meaning self.new) ≡ add-leaf (meaning self.old) state }
+        ensures { (result, meaning self.new) ≡ add_leaf (meaning self.old) state }
     {
         if state as usize >= self.states.len() {
             return Err(Refusal::NoState);
@@ -22,7 +22,7 @@ impl Draft {
 
     // Adds the "or" of two nodes, and answers its number.
     pub fn either(&mut self, left: u16, right: u16) -> Result<u8, Refusal>
-        ensures { (result, meaning self.new) ≡ add-either (meaning self.old) left right }
+        ensures { (result, meaning self.new) ≡ add_either (meaning self.old) left right }
     {
         if !self.has_nodes(left, right) {
             return Err(Refusal::NoNode);
@@ -32,7 +32,7 @@ impl Draft {
 
     // Adds the "and" of two nodes, and answers its number.
     pub fn both(&mut self, left: u16, right: u16) -> Result<u8, Refusal>
-        ensures { (result, meaning self.new) ≡ add-both (meaning self.old) left right }
+        ensures { (result, meaning self.new) ≡ add_both (meaning self.old) left right }
     {
         if !self.has_nodes(left, right) {
             return Err(Refusal::NoNode);
@@ -52,15 +52,15 @@ impl Draft {
 
     // Whether both nodes exist.
     fn has_nodes(&self, left: u16, right: u16) -> bool
-        ensures { result ≡ are-nodes (meaning self.now) left right }
+        ensures { result ≡ are_nodes (meaning self.now) left right }
     {
         (left as usize) < self.nodes.len() && (right as usize) < self.nodes.len()
     }
 
     // Adds a node, whose parts exist, and answers its number.
     fn add(&mut self, node: Node) -> Result<u8, Refusal>
-        requires { Fits (state-count (meaning self.old)) (node-count (meaning self.old)) node }
-        ensures { (result, meaning self.new) ≡ add-node (meaning self.old) node }
+        requires { Fits (state_count (meaning self.old)) (node_count (meaning self.old)) node }
+        ensures { (result, meaning self.new) ≡ add_node (meaning self.old) node }
     {
         let count = self.nodes.len();
         if count >= 128 {

@@ -1,7 +1,7 @@
 // The priorities of a draft, and its dual.
 ghost use Rattle.std.specs.Prelude.{◌≡◌, true, map};
-ghost use Rattle.draft.specs.Automaton.{priority-of};
-ghost use Rattle.draft.specs.Calls.{can-turn, dual, raised, set-priority, turn-over};
+ghost use Rattle.draft.specs.Automaton.{priority_of};
+ghost use Rattle.draft.specs.Calls.{can_turn, dual, raised, set_priority, turn_over};
 ghost use Rattle.draft.specs.Meaning.{meaning};
 
 use super::Draft;
@@ -11,7 +11,7 @@ use refusal::Refusal;
 impl Draft {
     // Replaces the priority of a state.
     pub fn regrade(&mut self, state: u16, priority: u16) -> Result<(), Refusal>
-        ensures { (result, meaning self.new) ≡ set-priority (meaning self.old) state priority }
+        ensures { (result, meaning self.new) ≡ set_priority (meaning self.old) state priority }
     {
         if state as usize >= self.states.len() {
             return Err(Refusal::NoState);
@@ -25,7 +25,7 @@ impl Draft {
 
     // The priority of a state, or 0 where there is no such state.
     pub fn priority_at(&self, state: usize) -> u16
-        ensures { result ≡ priority-of (meaning self.now) state }
+        ensures { result ≡ priority_of (meaning self.now) state }
     {
         if state >= self.states.len() {
             return 0;
@@ -35,7 +35,7 @@ impl Draft {
 
     // Exchanges either and both throughout, and adds 1 to every priority.
     pub fn turn(&mut self) -> Result<(), Refusal>
-        ensures { (result, meaning self.new) ≡ turn-over (meaning self.old) }
+        ensures { (result, meaning self.new) ≡ turn_over (meaning self.old) }
     {
         if !all_below_top(&self.states) {
             return Err(Refusal::Top);
@@ -48,7 +48,7 @@ impl Draft {
 
 // Whether every priority is below 999.
 fn all_below_top(states: &[State]) -> bool
-    ensures { result ≡ can-turn states.now }
+    ensures { result ≡ can_turn states.now }
 {
     for s in states {
         if s.priority >= 999 {
@@ -60,7 +60,7 @@ fn all_below_top(states: &[State]) -> bool
 
 // Adds 1 to every priority.
 fn raise_states(states: &mut [State])
-    requires { can-turn states.old ≡ true }
+    requires { can_turn states.old ≡ true }
     ensures { states.new ≡ map raised states.old }
 {
     for s in states.iter_mut() {

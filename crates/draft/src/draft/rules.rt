@@ -1,7 +1,7 @@
 // The rules of a draft, and whether they are complete.
 ghost use Rattle.std.specs.Prelude.{◌≡◌};
-ghost use Rattle.draft.specs.Automaton.{rule-of, is-ruled, is-complete};
-ghost use Rattle.draft.specs.Calls.{set-rule};
+ghost use Rattle.draft.specs.Automaton.{rule_of, is_ruled, is_complete};
+ghost use Rattle.draft.specs.Calls.{set_rule};
 ghost use Rattle.draft.specs.Meaning.{meaning};
 
 use super::Draft;
@@ -10,7 +10,7 @@ use refusal::Refusal;
 impl Draft {
     // Sets or replaces the rule of a state for a letter.
     pub fn rule(&mut self, state: u16, letter: u8, node: u16) -> Result<(), Refusal>
-        ensures { (result, meaning self.new) ≡ set-rule (meaning self.old) state letter node }
+        ensures { (result, meaning self.new) ≡ set_rule (meaning self.old) state letter node }
     {
         if state as usize >= self.states.len() {
             return Err(Refusal::NoState);
@@ -27,7 +27,7 @@ impl Draft {
 
     // The node to which a letter leads a state, if there is a rule for them.
     pub fn rule_at(&self, state: usize, letter: u8) -> Option<u8>
-        ensures { result ≡ rule-of (meaning self.now) state letter }
+        ensures { result ≡ rule_of (meaning self.now) state letter }
     {
         if state >= self.states.len() {
             return None;
@@ -40,7 +40,7 @@ impl Draft {
 
     // Whether a state has a rule for each letter.
     pub fn ruled(&self, state: usize) -> bool
-        ensures { result ≡ is-ruled (meaning self.now) state }
+        ensures { result ≡ is_ruled (meaning self.now) state }
     {
         for letter in 0..self.letters {
             if self.rule_at(state, letter).is_none() {
@@ -52,7 +52,7 @@ impl Draft {
 
     // Whether each state has a rule for each letter.
     pub fn complete(&self) -> bool
-        ensures { result ≡ is-complete (meaning self.now) }
+        ensures { result ≡ is_complete (meaning self.now) }
     {
         for state in 0..self.states.len() {
             if !self.ruled(state) {

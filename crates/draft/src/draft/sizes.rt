@@ -1,6 +1,6 @@
 // The sizes of a draft, and its lists.
 ghost use Rattle.std.specs.Prelude.{◌≡◌};
-ghost use Rattle.draft.specs.Automaton.{state-count, node-count};
+ghost use Rattle.draft.specs.Automaton.{state_count, node_count};
 ghost use Rattle.draft.specs.Meaning.{meaning};
 
 use super::Draft;
@@ -16,14 +16,14 @@ impl Draft {
 
     // The number of states.
     pub fn state_count(&self) -> usize
-        ensures { result ≡ state-count (meaning self.now) }
+        ensures { result ≡ state_count (meaning self.now) }
     {
         self.states.len()
     }
 
     // The number of nodes.
     pub fn node_count(&self) -> usize
-        ensures { result ≡ node-count (meaning self.now) }
+        ensures { result ≡ node_count (meaning self.now) }
     {
         self.nodes.len()
     }

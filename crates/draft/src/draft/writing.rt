@@ -2,7 +2,7 @@
 ghost use Rattle.std.specs.Prelude.{◌≡◌, ◌≤◌, ◌++◌, map, length, IfOk, OnOk};
 ghost use Rattle.std.specs.List.{flat_map};
 ghost use Rattle.draft.specs.Meaning.{meaning};
-ghost use Rattle.draft.specs.Written.{encoded, state-call, node_call, rule_call, rule-calls, all-rule-calls, written, Written-loads};
+ghost use Rattle.draft.specs.Written.{encoded, state_call, node_call, rule_call, rule_calls, all_rule_calls, written, WrittenLoads};
 
 use super::Draft;
 use crate::parts::{Node, State};
@@ -14,7 +14,7 @@ impl Draft {
     // that such records load back to the same draft.
     pub fn records(&self, heap: Global) -> Result<Vec<u8>, AllocError>
         ensures made { IfOk result (λ v. v.items ≡ written (meaning self.now)) }
-        ensures loads { Written-loads }
+        ensures loads { WrittenLoads }
     {
         let mut out = Vec::new(heap);
         put_states(&mut out, &self.states)?;
@@ -33,7 +33,7 @@ fn put(out: &mut Vec<u8>, call: Call) -> Result<(), AllocError>
 
 // Adds a record for each state.
 fn put_states(out: &mut Vec<u8>, states: &[State]) -> Result<(), AllocError>
-    ensures { OnOk result (out.new.items ≡ out.old.items ++ flat_map encoded (map state-call states.now)) }
+    ensures { OnOk result (out.new.items ≡ out.old.items ++ flat_map encoded (map state_call states.now)) }
 {
     for s in states {
         put(out, Call::State(s.priority))?;
@@ -65,7 +65,7 @@ fn call_of(node: Node) -> Call
 // Adds a record for each rule.
 fn put_all_rules(out: &mut Vec<u8>, states: &[State]) -> Result<(), AllocError>
     requires { length states.now ≤ 32 }
-    ensures { OnOk result (out.new.items ≡ out.old.items ++ flat_map encoded (all-rule-calls 0 states.now)) }
+    ensures { OnOk result (out.new.items ≡ out.old.items ++ flat_map encoded (all_rule_calls 0 states.now)) }
 {
     for (q, s) in states.iter().enumerate() {
         put_rules(out, q as u16, &s.rules)?;
@@ -75,7 +75,7 @@ fn put_all_rules(out: &mut Vec<u8>, states: &[State]) -> Result<(), AllocError>
 
 // Adds a record for each rule of a state.
 fn put_rules(out: &mut Vec<u8>, state: u16, rules: &[Option<u8>; 16]) -> Result<(), AllocError>
-    ensures { OnOk result (out.new.items ≡ out.old.items ++ flat_map encoded (rule-calls state 0 rules.now)) }
+    ensures { OnOk result (out.new.items ≡ out.old.items ++ flat_map encoded (rule_calls state 0 rules.now)) }
 {
     for (letter, rule) in rules.iter().enumerate() {
         put_rule(out, state, letter as u8, *rule)?;

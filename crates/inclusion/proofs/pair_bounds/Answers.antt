@@ -3,4 +3,4 @@ use Rattle.inclusion.proofs.PairBounded as theorem
 use Rattle.inclusion.proofs.pair_bounds.Goals as goal
 
 pub returns : goal.returns
-returns c = theorem.pair-bounded
+returns c = theorem.pair_bounded

@@ -3,4 +3,4 @@ use Rattle.inclusion.proofs.Tested as theorem
 use Rattle.inclusion.proofs.stratified_tested.Goals as goal
 
 pub returns : goal.returns
-returns c = theorem.stratified-tested
+returns c = theorem.stratified_tested

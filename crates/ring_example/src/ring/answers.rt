@@ -1,6 +1,6 @@
 // The ring as an arena.
-ghost use Rattle.ring_example.specs.Ring.{ring-game, station};
-ghost use Rattle.ring_example.specs.RingBounds.{ring-bounds, ring-elsewhere};
+ghost use Rattle.ring_example.specs.Ring.{ring_game, station};
+ghost use Rattle.ring_example.specs.RingBounds.{ring_bounds, ring_elsewhere};
 ghost use Rattle.ring_example.specs.Made.{ring_of};
 
 use super::{Ring, Station};
@@ -23,13 +23,13 @@ impl Ring {
 impl Arena for Ring {
     type Place = Station;
 
-    ghost meaning = { λ r. ring-game r.stations };
+    ghost meaning = { λ r. ring_game r.stations };
 
     ghost places = { λ r v. station r.stations v };
 
-    ghost bounds = { λ r. ring-bounds r.stations r.some r.few };
+    ghost bounds = { λ r. ring_bounds r.stations r.some r.few };
 
-    ghost elsewhere = { λ r v h. ring-elsewhere r.stations v h };
+    ghost elsewhere = { λ r v h. ring_elsewhere r.stations v h };
 
     fn count(&self) -> usize {
         self.stations

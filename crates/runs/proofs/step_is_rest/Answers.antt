@@ -3,4 +3,4 @@ use Rattle.runs.proofs.Rest as theorem
 use Rattle.runs.proofs.step_is_rest.Goals as goal
 
 pub returns : goal.returns
-returns c = theorem.step-is-rest
+returns c = theorem.step_is_rest

@@ -3,4 +3,4 @@ use Rattle.runs.proofs.WordBounded as theorem
 use Rattle.runs.proofs.word_bounds.Goals as goal
 
 pub returns : goal.returns
-returns c = theorem.word-bounded
+returns c = theorem.word_bounded

@@ -2,11 +2,11 @@
 ghost use Rattle.std.specs.Prelude.{◌≡◌, ◌+◌, ◌<◌};
 ghost use Rattle.std.proofs.Common.{arith};
 ghost use Rattle.draft.specs.Meaning.{meaning as automaton};
-ghost use Rattle.runs.specs.WordGame.{node-owner, node-degree, vertex-place, next-step, word-game, word-place};
-ghost use Rattle.runs.proofs.WordBounded.{word-elsewhere};
-ghost use Rattle.word.specs.Moving.{state-move, node-move};
+ghost use Rattle.runs.specs.WordGame.{node_owner, node_degree, vertex_place, next_step, word_game, word_place};
+ghost use Rattle.runs.proofs.WordBounded.{word_elsewhere};
+ghost use Rattle.word.specs.Moving.{state_move, node_move};
 ghost use Rattle.word.specs.Readables.{readable};
-ghost use Rattle.word.specs.WordArenaBounds.{arena-bounds};
+ghost use Rattle.word.specs.WordArenaBounds.{arena_bounds};
 
 use super::WordArena;
 use super::grid::{join, split};
@@ -20,7 +20,7 @@ impl WordArena<'_> {
     // What a vertex stands for.
     fn vertex(&self, v: usize) -> WordPlace
         requires { v < self.now.count }
-        ensures { result ≡ vertex-place self.now.steps self.now.states self.now.nodes v }
+        ensures { result ≡ vertex_place self.now.steps self.now.states self.now.nodes v }
     {
         if v < self.stated {
             let (k, q) = split(v, self.states);
@@ -34,7 +34,7 @@ impl WordArena<'_> {
     // The step after k: after the last comes the first of the period.
     fn next(&self, k: u8) -> u8
         requires { k < self.now.steps }
-        ensures { result ≡ next-step self.now.prefix.now self.now.period.now k }
+        ensures { result ≡ next_step self.now.prefix.now self.now.period.now k }
     {
         if k as usize + 1 == self.steps {
             self.prefix.len() as u8
@@ -45,7 +45,7 @@ impl WordArena<'_> {
 
     // Where a state at step k leads: to the node of its rule for the step's letter.
     fn from_state(&self, k: u8, q: u8, i: usize) -> usize
-        ensures { result ≡ state-move (automaton self.now.draft.now) self.now.prefix.now self.now.period.now k q i }
+        ensures { result ≡ state_move (automaton self.now.draft.now) self.now.prefix.now self.now.period.now k q i }
     {
         if i > 0 {
             return 0;
@@ -58,7 +58,7 @@ impl WordArena<'_> {
     // Where a node at step k leads: a leaf to its state at the next step, another to its left, then its right.
     fn from_node(&self, k: u8, node: Node, i: usize) -> usize
         requires { k < self.now.steps }
-        ensures { result ≡ node-move (automaton self.now.draft.now) self.now.prefix.now self.now.period.now k node i }
+        ensures { result ≡ node_move (automaton self.now.draft.now) self.now.prefix.now self.now.period.now k node i }
     {
         if i >= degree_of(node) {
             return 0;
@@ -75,7 +75,7 @@ impl WordArena<'_> {
 
 // Both belongs to player 1, all else to player 0.
 fn owner_of(node: Node) -> Player
-    ensures { result ≡ node-owner node }
+    ensures { result ≡ node_owner node }
 {
     match node {
         Node::Leaf(_) => Player::Zero,
@@ -85,7 +85,7 @@ fn owner_of(node: Node) -> Player
 }
 
 fn degree_of(node: Node) -> usize
-    ensures { result ≡ node-degree node }
+    ensures { result ≡ node_degree node }
 {
     match node {
         Node::Leaf(_) => 1,
@@ -97,13 +97,13 @@ fn degree_of(node: Node) -> usize
 impl Arena for WordArena<'_> {
     type Place = WordPlace;
 
-    ghost meaning = { λ w. word-game (automaton w.draft.now) w.prefix.now w.period.now };
+    ghost meaning = { λ w. word_game (automaton w.draft.now) w.prefix.now w.period.now };
 
-    ghost places = { λ w v. word-place (automaton w.draft.now) w.prefix.now w.period.now v };
+    ghost places = { λ w v. word_place (automaton w.draft.now) w.prefix.now w.period.now v };
 
-    ghost bounds = { λ w. arena-bounds w.draft.now w.complete (omega (arith, w.some_state, w.states_are)) w.prefix.now w.period.now (readable (automaton w.draft.now).letters w.prefix.now w.period.now w.some_period w.known) (omega (arith, w.short, w.steps_are)) };
+    ghost bounds = { λ w. arena_bounds w.draft.now w.complete (omega (arith, w.some_state, w.states_are)) w.prefix.now w.period.now (readable (automaton w.draft.now).letters w.prefix.now w.period.now w.some_period w.known) (omega (arith, w.short, w.steps_are)) };
 
-    ghost elsewhere = { λ w v h. word-elsewhere (automaton w.draft.now) w.prefix.now w.period.now v h };
+    ghost elsewhere = { λ w v h. word_elsewhere (automaton w.draft.now) w.prefix.now w.period.now v h };
 
     fn count(&self) -> usize {
         self.count

@@ -3,4 +3,4 @@ use Rattle.draft.proofs.TurnLaws as it
 use Rattle.draft.proofs.laws.turn_laws.Goals as goal
 
 pub returns : goal.returns
-returns c = (it.turns-cancel, it.turn-keeps-complete)
+returns c = (it.turns_cancel, it.turn_keeps_complete)

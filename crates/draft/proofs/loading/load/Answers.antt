@@ -1,14 +1,14 @@
 -- One more record is taken with each turn of the loop.
 use Rattle.std.proofs.Common.{◌∙◌, rules}
 use Rattle.std.proofs.lemmas.List.{at_drop_all}
-use Rattle.draft.specs.Load.{take-records}
+use Rattle.draft.specs.Load.{take_records}
 use Rattle.draft.specs.Meaning.{meaning}
-use Rattle.draft.proofs.Folds.{take_more, take-stop}
+use Rattle.draft.proofs.Folds.{take_more, take_stop}
 use Rattle.draft.proofs.loading.load.Goals as goal
 
 pub returns-in-err-take : goal.returns-in-err-take
 returns-in-err-take c =
-    let s = take-stop _ _ _ _ _ c.loop-i-test.true c.in-err-take.ensures in
+    let s = take_stop _ _ _ _ _ c.loop-i-test.true c.in-err-take.ensures in
     search rules
 
 pub loop-i-preserved : goal.loop-i-preserved
@@ -16,5 +16,5 @@ loop-i-preserved c = take_more _ _ _ _ c.loop-i-test.true c.in-ok-take.ensures �
 
 pub returns : goal.returns
 returns c =
-    let e = at_drop_all (take-records (meaning c.loop-i.draft) c.loop-i.i) c.as-chunks.result.0.now c.loop-i.i c.loop-i-test.false in
+    let e = at_drop_all (take_records (meaning c.loop-i.draft) c.loop-i.i) c.as-chunks.result.0.now c.loop-i.i c.loop-i-test.false in
     search rules

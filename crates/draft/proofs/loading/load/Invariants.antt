@@ -1,8 +1,8 @@
 -- What is left to take from here gives what the whole file gives.
 use Rattle.std.proofs.Common.{◌≡◌, drop}
-use Rattle.draft.specs.Load.{take-records}
+use Rattle.draft.specs.Load.{take_records}
 use Rattle.draft.specs.Meaning.{meaning}
 use Rattle.draft.proofs.loading.load.Given as goal
 
 abbrev pub invariant-loop-i : goal.invariant-loop-i
-invariant-loop-i l = take-records (meaning l.draft) l.i (drop l.i l.records) ≡ take-records (meaning l.initial.draft) 0 l.records
+invariant-loop-i l = take_records (meaning l.draft) l.i (drop l.i l.records) ≡ take_records (meaning l.initial.draft) 0 l.records

@@ -1,5 +1,5 @@
 use Rattle.std.proofs.Common.{◌+◌, refl, ap, ◌∙◌, subst, arith}
-use Rattle.game.specs.Filling.{Least-open, or-end, partly}
+use Rattle.game.specs.Filling.{LeastOpen, or_end, partly}
 use Rattle.game.proofs.Advance.{none_yet, all_done, rises, advance, small_open}
 use Rattle.game.proofs.ranks.rank.Goals as goal
 
@@ -16,23 +16,23 @@ stage-requires g c =
     let b = g.X.Arena.bounds c.args.arena.now in
     record {
       room = omega arith;
-      small = small_open G b c.loop-next.out c.in-Some.p (subst (Least-open G c.loop-next.out) c.in-Some.is c.loop-next.invariant.1);
-      filled = λ v v<. c.loop-next.invariant.0 v v< ∙ ap (λ r. partly G (or-end r) 0 v) c.in-Some.is;
+      small = small_open G b c.loop-next.out c.in-Some.p (subst (LeastOpen G c.loop-next.out) c.in-Some.is c.loop-next.invariant.1);
+      filled = λ v v<. c.loop-next.invariant.0 v v< ∙ ap (λ r. partly G (or_end r) 0 v) c.in-Some.is;
     }
 
 pub loop-next-smaller : goal.loop-next-smaller
 loop-next-smaller g c =
     let G = g.X.Arena.meaning c.args.arena.now in
     let b = g.X.Arena.bounds c.args.arena.now in
-    let is = ap or-end c.in-Some.is in
-    let small = small_open G b c.loop-next.out c.in-Some.p (subst (Least-open G c.loop-next.out) c.in-Some.is c.loop-next.invariant.1) in
+    let is = ap or_end c.in-Some.is in
+    let small = small_open G b c.loop-next.out c.in-Some.p (subst (LeastOpen G c.loop-next.out) c.in-Some.is c.loop-next.invariant.1) in
     omega (arith, rises G b (c.in-Some.p + 1) _ (omega arith) c.stage.ensures.filled _ c.least-open-next-in-Some.ensures)
 
 pub loop-next-preserved : goal.loop-next-preserved
 loop-next-preserved g c =
     let G = g.X.Arena.meaning c.args.arena.now in
     let b = g.X.Arena.bounds c.args.arena.now in
-    let small = small_open G b c.loop-next.out c.in-Some.p (subst (Least-open G c.loop-next.out) c.in-Some.is c.loop-next.invariant.1) in (
+    let small = small_open G b c.loop-next.out c.in-Some.p (subst (LeastOpen G c.loop-next.out) c.in-Some.is c.loop-next.invariant.1) in (
       advance G b (c.in-Some.p + 1) _ (omega arith) c.stage.ensures.filled _ c.least-open-next-in-Some.ensures,
       c.least-open-next-in-Some.ensures,
       λ v h. c.stage.ensures.kept v h ∙ c.loop-next.invariant.2 v h,
@@ -42,7 +42,7 @@ pub returns : goal.returns
 returns g c =
     let G = g.X.Arena.meaning c.args.arena.now in
     let b = g.X.Arena.bounds c.args.arena.now in
-    let is = ap or-end c.in-default.is in
+    let is = ap or_end c.in-default.is in
     record {
       ranked = all_done G b _ c.loop-next.out (omega arith) c.loop-next.invariant.0;
       kept = λ v h. c.loop-next.invariant.2 v h ∙ c.clear.ensures.kept v (omega arith);

@@ -1,13 +1,13 @@
 use Rattle.std.proofs.Common.{◌≡◌, sym, refl, ap, ◌∙◌, arith}
 use Rattle.parity.specs.Below.{some_below}
 use Rattle.game.specs.Filling.{gets}
-use Rattle.game.proofs.Walks.{some-none, some-new, some_same}
+use Rattle.game.proofs.Walks.{some_none, some_new, some_same}
 use Rattle.game.proofs.Rounds.{tells, pass, store}
 use Rattle.game.proofs.ranks.round.Goals as goal
 use Rattle.game.proofs.ranks.round.Goals.{then-joins, else-joins}
 
 pub loop-v-init : goal.loop-v-init
-loop-v-init g c = (record { new = λ k h. absurd (omega arith); old = λ k _ k<. c.requires.filled k k<; kept = λ k _. refl }, sym (some-none _))
+loop-v-init g c = (record { new = λ k h. absurd (omega arith); old = λ k _ k<. c.requires.filled k k<; kept = λ k _. refl }, sym (some_none _))
 
 pub loop-v-preserved : goal.loop-v-preserved
 loop-v-preserved g c =
@@ -19,7 +19,7 @@ loop-v-preserved g c =
     elim c.if-joins.branch [
       | then-joins w ↦
           (let t = sym is ∙ w.if-joins.true in
-          (rw w.out-is (store G b _ _ v _ _ (omega arith) h (omega arith) t), w.found-is ∙ sym (some-new v _ t)))
+          (rw w.out-is (store G b _ _ v _ _ (omega arith) h (omega arith) t), w.found-is ∙ sym (some_new v _ t)))
       | else-joins w ↦
           (let t = sym is ∙ w.if-joins.false in
           (rw w.out-is (pass G b _ _ v _ _ (omega arith) h t), w.found-is ∙ c.loop-v.invariant.1 ∙ sym (some_same v _ t)))

@@ -1,5 +1,5 @@
 use Rattle.std.proofs.Common.{◌<◌, sym, ◌∙◌, arith, rules}
-use Rattle.game.proofs.Rounds.{found_below, stage-ends}
+use Rattle.game.proofs.Rounds.{found_below, stage_ends}
 use Rattle.game.proofs.ranks.stage.Goals as goal
 
 pub overflow-add-d : goal.overflow-add-d
@@ -20,6 +20,6 @@ returns g c =
     let G = g.X.Arena.meaning c.args.arena.now in
     let b = g.X.Arena.bounds c.args.arena.now in
     record {
-      filled = λ v v<. c.round.ensures.filled v v< ∙ stage-ends G b c.args.p c.loop-d.d (sym c.round.ensures.found ∙ c.loop-d-test.false) v v<;
+      filled = λ v v<. c.round.ensures.filled v v< ∙ stage_ends G b c.args.p c.loop-d.d (sym c.round.ensures.found ∙ c.loop-d-test.false) v v<;
       kept = λ v h. c.round.ensures.kept v h ∙ c.loop-d.invariant.1 v h;
     }

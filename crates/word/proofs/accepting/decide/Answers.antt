@@ -1,25 +1,25 @@
 use Rattle.std.proofs.Common.{Ok, sym, ap, ◌∙◌, arith, rules}
 use Rattle.game.specs.Outcomes.{solved}
 use Rattle.draft.specs.Meaning.{meaning}
-use Rattle.draft.proofs.Drafts.{draft-well-formed}
-use Rattle.word.proofs.Judging.{same-game, refused-by, no_room, solved-by, room}
+use Rattle.draft.proofs.Drafts.{draft_well_formed}
+use Rattle.word.proofs.Judging.{same_game, refused_by, no_room, solved_by, room}
 use Rattle.word.proofs.accepting.decide.Goals as goal
 
 pub returns-in-err-ask : goal.returns-in-err-ask
 returns-in-err-ask c =
-    let s = refused-by (meaning c.args.draft.now) c.args.state c.args.prefix.now c.args.period.now c.args.out.now _ c.in-err-ask.ensures in
+    let s = refused_by (meaning c.args.draft.now) c.args.state c.args.prefix.now c.args.period.now c.args.out.now _ c.in-err-ask.ensures in
     search rules
 
 pub returns-in-err-solve : goal.returns-in-err-solve
 returns-in-err-solve c =
-    let s = no_room (meaning c.args.draft.now) c.args.state c.args.prefix.now c.args.period.now c.args.out.now (draft-well-formed c.args.draft.now) (sym c.in-ok-ask.ensures) _ _ (c.in-err-solve.ensures.solved ∙ same-game c.args.out.now c.make-arena.ensures) in
+    let s = no_room (meaning c.args.draft.now) c.args.state c.args.prefix.now c.args.period.now c.args.out.now (draft_well_formed c.args.draft.now) (sym c.in-ok-ask.ensures) _ _ (c.in-err-solve.ensures.solved ∙ same_game c.args.out.now c.make-arena.ensures) in
     search rules
 
 pub bounds-out-state : goal.bounds-out-state
 bounds-out-state c =
-    omega (arith, room (meaning c.args.draft.now) c.args.state c.args.prefix.now c.args.period.now c.args.out.now (draft-well-formed c.args.draft.now) (sym c.in-ok-ask.ensures) _ (c.in-ok-solve.ensures.solved ∙ same-game c.args.out.now c.make-arena.ensures))
+    omega (arith, room (meaning c.args.draft.now) c.args.state c.args.prefix.now c.args.period.now c.args.out.now (draft_well_formed c.args.draft.now) (sym c.in-ok-ask.ensures) _ (c.in-ok-solve.ensures.solved ∙ same_game c.args.out.now c.make-arena.ensures))
 
 pub returns : goal.returns
 returns c =
     ap (λ v. (Ok v, c.solve.new.out)) c.verdict.ensures
-    ∙ solved-by (meaning c.args.draft.now) c.args.state c.args.prefix.now c.args.period.now c.args.out.now (draft-well-formed c.args.draft.now) (sym c.in-ok-ask.ensures) _ (c.in-ok-solve.ensures.solved ∙ same-game c.args.out.now c.make-arena.ensures)
+    ∙ solved_by (meaning c.args.draft.now) c.args.state c.args.prefix.now c.args.period.now c.args.out.now (draft_well_formed c.args.draft.now) (sym c.in-ok-ask.ensures) _ (c.in-ok-solve.ensures.solved ∙ same_game c.args.out.now c.make-arena.ensures)

@@ -1,26 +1,26 @@
 -- The sizes of an arena that was asked about.
 use Rattle.std.proofs.Common.{◌+◌, ◌*◌, ap, arith}
-use Rattle.draft.specs.Automaton.{state-count, node-count}
+use Rattle.draft.specs.Automaton.{state_count, node_count}
 use Rattle.draft.specs.Meaning.{meaning}
-use Rattle.draft.proofs.Drafts.{draft-well-formed}
-use Rattle.runs.proofs.Rows.{some-rows, few-rows}
+use Rattle.draft.proofs.Drafts.{draft_well_formed}
+use Rattle.runs.proofs.Rows.{some_rows, few_rows}
 use Rattle.contain.proofs.Asked.{answered}
-use Rattle.runs.proofs.Formed.{some-node}
+use Rattle.runs.proofs.Formed.{some_node}
 use Rattle.contain.proofs.pair.maker.make.Goals as goal
 
 pub invariant-of-result : goal.invariant-of-result
 invariant-of-result c =
     let a = meaning c.args.first.now in
     let b = meaning c.args.second.now in
-    let wa = draft-well-formed c.args.first.now in
-    let wb = draft-well-formed c.args.second.now in
+    let wa = draft_well_formed c.args.first.now in
+    let wb = draft_well_formed c.args.second.now in
     let y = answered a c.args.first-state b c.args.second-state c.requires in
     let s = c.state-count-states.result in
     let m = c.node-count-nodes.result in
-    let stated = ap (λ n. n * s) c.state-count.ensures in
-    let noded = ap (λ n. n * m) c.node-count.ensures in
-    let node = some-node b wb y.complete' c.args.second-state y.state' in
-    let some = some-rows (state-count a) s (omega (arith, y.state)) (omega (arith, y.state')) in
-    let few = few-rows 32 (state-count a) s wa.few-states (omega (arith, wb.few-states)) in
-    let few-nodes' = few-rows 128 (node-count a) m wa.few-nodes (omega (arith, wb.few-nodes)) in
-    (c.letters.ensures, (c.state-count-states.ensures, (c.node-count-nodes.ensures, (stated, (ap (λ n. c.state-count.result * s + n) noded, (omega (arith, stated, some), (omega (arith, stated, noded, few, few-nodes'), (omega (arith, y.state), (omega (arith, y.state'), (omega (arith, node), (y.complete, (y.complete', (y.letters, tt)))))))))))))
+    let stated = ap (λ n. n * s) c.state_count.ensures in
+    let noded = ap (λ n. n * m) c.node_count.ensures in
+    let node = some_node b wb y.complete' c.args.second-state y.state' in
+    let some = some_rows (state_count a) s (omega (arith, y.state)) (omega (arith, y.state')) in
+    let few = few_rows 32 (state_count a) s wa.few_states (omega (arith, wb.few_states)) in
+    let few-nodes' = few_rows 128 (node_count a) m wa.few_nodes (omega (arith, wb.few_nodes)) in
+    (c.letters.ensures, (c.state-count-states.ensures, (c.node-count-nodes.ensures, (stated, (ap (λ n. c.state_count.result * s + n) noded, (omega (arith, stated, some), (omega (arith, stated, noded, few, few-nodes'), (omega (arith, y.state), (omega (arith, y.state'), (omega (arith, node), (y.complete, (y.complete', (y.letters, tt)))))))))))))

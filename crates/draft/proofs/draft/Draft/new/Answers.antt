@@ -1,13 +1,13 @@
 -- A new draft is empty; the law of histories does not depend on it.
 use Rattle.std.proofs.Common.{rules}
-use Rattle.draft.proofs.Histories.{histories-keep}
+use Rattle.draft.proofs.Histories.{histories_keep}
 use Rattle.draft.proofs.draft.Draft.new.Goals as goal
 
 pub returns-in-err-states : goal.returns-in-err-states
-returns-in-err-states c = record { made = search rules; kept = histories-keep }
+returns-in-err-states c = record { made = search rules; kept = histories_keep }
 
 pub returns-in-err-nodes : goal.returns-in-err-nodes
-returns-in-err-nodes c = record { made = search rules; kept = histories-keep }
+returns-in-err-nodes c = record { made = search rules; kept = histories_keep }
 
 pub returns : goal.returns
-returns c = record { made = search rules; kept = histories-keep }
+returns c = record { made = search rules; kept = histories_keep }

@@ -1,23 +1,23 @@
 -- The three parts, one after the other, are what is written.
 use Rattle.std.proofs.Common.{rules}
 use Rattle.draft.specs.Meaning.{meaning}
-use Rattle.draft.proofs.Reloads.{written-loads}
+use Rattle.draft.proofs.Reloads.{written_loads}
 use Rattle.draft.proofs.WrittenParts.{in_parts}
 use Rattle.draft.proofs.draft.Draft.records.Goals as goal
 
 pub returns-in-err-put-states : goal.returns-in-err-put-states
-returns-in-err-put-states c = record { made = search rules; loads = written-loads }
+returns-in-err-put-states c = record { made = search rules; loads = written_loads }
 
 pub returns-in-err-put-nodes : goal.returns-in-err-put-nodes
-returns-in-err-put-nodes c = record { made = search rules; loads = written-loads }
+returns-in-err-put-nodes c = record { made = search rules; loads = written_loads }
 
 pub returns-in-err-put-all-rules : goal.returns-in-err-put-all-rules
-returns-in-err-put-all-rules c = record { made = search rules; loads = written-loads }
+returns-in-err-put-all-rules c = record { made = search rules; loads = written_loads }
 
 pub returns : goal.returns
 returns c = record {
   made =
       in_parts (meaning c.args.self.now) _ _ _ _ _ _ _ c.deref.ensures.value c.deref-2.ensures.value c.deref-3.ensures.value c.new-out.ensures.items
       c.in-ok-put-states.ensures c.in-ok-put-nodes.ensures c.in-ok-put-all-rules.ensures;
-  loads = written-loads;
+  loads = written_loads;
 }

@@ -1,20 +1,20 @@
 -- A draft with a rule set keeps what drafts keep.
 use Rattle.std.proofs.Common.{◌≡◌, ◌<◌, get_or, set, vec_items, sym, refl, subst, arith, rules}
 use Rattle.std.proofs.lemmas.List.{get_or_read_under}
-use Rattle.draft.specs.Automaton.{state-count, node-count, blank}
-use Rattle.draft.specs.Calls.{with-states, ruled}
+use Rattle.draft.specs.Automaton.{state_count, node_count, blank}
+use Rattle.draft.specs.Calls.{with_states, ruled}
 use Rattle.draft.specs.Meaning.{meaning}
-use Rattle.draft.specs.WellFormed.{Well-formed}
-use Rattle.draft.proofs.Drafts.{draft-well-formed}
-use Rattle.draft.proofs.Keeps.{rule-keeps}
+use Rattle.draft.specs.WellFormed.{WellFormed}
+use Rattle.draft.proofs.Drafts.{draft_well_formed}
+use Rattle.draft.proofs.Keeps.{rule_keeps}
 use Rattle.draft.proofs.draft.Draft.rule.Goals as goal
 
 pub invariant-of-self : goal.invariant-of-self
 invariant-of-self c =
-    let q< : c.args.state < state-count (meaning c.args.self.now) = omega (arith, c.args.self.now.states.ok.0) in
-    let x< : c.args.node < node-count (meaning c.args.self.now) = omega (arith, c.args.self.now.nodes.ok.0) in
+    let q< : c.args.state < state_count (meaning c.args.self.now) = omega (arith, c.args.self.now.states.ok.0) in
+    let x< : c.args.node < node_count (meaning c.args.self.now) = omega (arith, c.args.self.now.nodes.ok.0) in
     let e : c.index-mut.result.now ≡ get_or (vec_items c.args.self.now.states) c.args.state blank = get_or_read_under _ _ _ _ blank c.index-mut.ensures.value q< refl in
-    let k = rule-keeps (meaning c.args.self.now) c.args.state c.args.letter c.args.node (draft-well-formed c.args.self.now) q< c.if-letter-self.false x< in
-    let w : Well-formed (with-states (meaning c.args.self.now) (set (vec_items c.args.self.now.states) c.args.state (ruled c.index-mut.result.now c.args.letter c.args.node))) =
-    subst (λ s. Well-formed (with-states (meaning c.args.self.now) (set (vec_items c.args.self.now.states) c.args.state (ruled s c.args.letter c.args.node)))) (sym e) k in
+    let k = rule_keeps (meaning c.args.self.now) c.args.state c.args.letter c.args.node (draft_well_formed c.args.self.now) q< c.if-letter-self.false x< in
+    let w : WellFormed (with_states (meaning c.args.self.now) (set (vec_items c.args.self.now.states) c.args.state (ruled c.index-mut.result.now c.args.letter c.args.node))) =
+    subst (λ s. WellFormed (with_states (meaning c.args.self.now) (set (vec_items c.args.self.now.states) c.args.state (ruled s c.args.letter c.args.node)))) (sym e) k in
     search rules

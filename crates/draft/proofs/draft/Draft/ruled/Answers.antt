@@ -1,16 +1,16 @@
 -- The loop finds the first letter without a rule, or none.
 use Rattle.std.proofs.Common.{is_some, sym, ap, ◌∙◌, below_more}
-use Rattle.draft.specs.Automaton.{is-ruled}
-use Rattle.draft.proofs.AllBelow.{one-fails, none-fails}
+use Rattle.draft.specs.Automaton.{is_ruled}
+use Rattle.draft.proofs.AllBelow.{one_fails, none_fails}
 use Rattle.draft.proofs.draft.Draft.ruled.Goals as goal
 
 pub loop-letter-preserved : goal.loop-letter-preserved
 loop-letter-preserved c = below_more _ _ c.loop-letter.invariant (sym (ap is_some c.rule-at.ensures) ∙ c.if-is-none.ensures)
 
 pub returns-then-is-none : goal.returns-then-is-none
-unfolding is-ruled
-returns-then-is-none c = one-fails _ _ _ c.loop-letter-test.true (sym (ap is_some c.rule-at.ensures) ∙ c.if-is-none.ensures)
+unfolding is_ruled
+returns-then-is-none c = one_fails _ _ _ c.loop-letter-test.true (sym (ap is_some c.rule-at.ensures) ∙ c.if-is-none.ensures)
 
 pub returns : goal.returns
-unfolding is-ruled
-returns c = none-fails _ _ _ c.loop-letter-test.false c.loop-letter.invariant
+unfolding is_ruled
+returns c = none_fails _ _ _ c.loop-letter-test.false c.loop-letter.invariant

@@ -1,11 +1,11 @@
 -- Both priorities are at most 999.
 use Rattle.std.proofs.Common.{arith}
 use Rattle.draft.specs.Meaning.{meaning}
-use Rattle.draft.proofs.Drafts.{draft-well-formed}
-use Rattle.contain.proofs.Priorities.{priority-low}
+use Rattle.draft.proofs.Drafts.{draft_well_formed}
+use Rattle.contain.proofs.Priorities.{priority_low}
 use Rattle.contain.proofs.pair.answers.PairArenaArena.priority.Goals as goal
 
 pub priority-of-requires : goal.priority-of-requires
 priority-of-requires c =
     let w = c.args.self.now in
-    (omega (arith, priority-low (meaning w.first.now) (draft-well-formed w.first.now) c.in-AtStates.p), omega (arith, priority-low (meaning w.second.now) (draft-well-formed w.second.now) c.in-AtStates.q))
+    (omega (arith, priority_low (meaning w.first.now) (draft_well_formed w.first.now) c.in-AtStates.p), omega (arith, priority_low (meaning w.second.now) (draft_well_formed w.second.now) c.in-AtStates.q))

@@ -1,4 +1,6 @@
 // Arenas of weak parity games: the trait, and the two kinds that need no draft.
+#![tactic(auto)]
+
 mod interface;
 mod mirror;
 mod stored;

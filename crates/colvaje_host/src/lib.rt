@@ -1,4 +1,5 @@
 // The call for C: whether one draft file is contained in another.
+#![tactic(auto)]
 ghost use Rattle.std.specs.Prelude.{◌≡◌};
 ghost use Rattle.draft.specs.Load.{load_file};
 ghost use Rattle.draft.specs.Meaning.{meaning as automaton};

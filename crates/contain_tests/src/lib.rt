@@ -1,4 +1,5 @@
 // Tests of containment and of the call for C.
+#![tactic(auto)]
 #[cfg(test)]
 mod drafts;
 #[cfg(test)]

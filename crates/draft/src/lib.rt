@@ -1,4 +1,6 @@
 // Drafts: weak alternating parity automata, built by calls or loaded from records.
+#![tactic(auto)]
+
 mod draft;
 mod fault;
 mod laws;

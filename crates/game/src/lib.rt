@@ -1,4 +1,5 @@
 // Solves any arena: who wins each vertex, and by which move.
+#![tactic(auto)]
 mod moves;
 mod outcome;
 mod ranks;

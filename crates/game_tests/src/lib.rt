@@ -1,4 +1,5 @@
 // Tests of arenas and solve, apart from their crates, so that those are proved once.
+#![tactic(auto)]
 #[cfg(test)]
 mod bytes;
 #[cfg(test)]

@@ -1,5 +1,7 @@
 // Weak parity games: the definitions in specs/, and what is proved about every finite game.
 // The functions below do nothing; the contract of each is a theorem.
+#![tactic(auto)]
+
 mod player;
 
 ghost use Rattle.parity.specs.Determinacy.{Determinacy};

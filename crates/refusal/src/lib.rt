@@ -1,5 +1,7 @@
 // The reasons for which a call says no. Every layer uses this one enum, so that a number means the same
 // everywhere; docs/REFUSALS.md has the list with the calls that ask each question.
+#![tactic(auto)]
+
 ghost use Rattle.std.specs.Prelude.{◌≡◌};
 ghost use Rattle.refusal.specs.Numbers.{number_of};
 

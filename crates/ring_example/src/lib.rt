@@ -1,4 +1,5 @@
 // An arena of a buyer's own: stations in a ring hand a token on. It uses the trait and the solver alone.
+#![tactic(auto)]
 mod ring;
 
 ghost use Rattle.std.specs.Prelude.{◌≡◌};

@@ -1,5 +1,7 @@
 // Runs of weak alternating parity automata, and the word game that decides whether one accepts: the definitions in specs/, and
 // what is proved about every automaton and every repeating word. The functions below do nothing; the contract of each is a theorem.
+#![tactic(auto)]
+
 mod place;
 
 ghost use Rattle.runs.specs.Accepting.{Accepting};

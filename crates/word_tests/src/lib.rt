@@ -1,4 +1,5 @@
 // Tests of words and acceptance.
+#![tactic(auto)]
 #[cfg(test)]
 mod acceptance;
 #[cfg(test)]

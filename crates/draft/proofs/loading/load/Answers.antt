@@ -12,9 +12,9 @@ returns-in-err-take c =
     search rules
 
 pub loop-i-preserved : goal.loop-i-preserved
-loop-i-preserved c = take_more _ _ _ _ c.loop-i-test.true c.in-ok-take.ensures ∙ c.loop-i.invariant
+loop-i-preserved c = take_more _ _ _ _ c.loop-i-test.true c.in_ok-take.ensures ∙ c.loop-i.invariant
 
 pub returns : goal.returns
 returns c =
-    let e = at_drop_all (take_records (meaning c.loop-i.draft) c.loop-i.i) c.as-chunks.result.0.now c.loop-i.i c.loop-i-test.false in
+    let e = at_drop_all (take_records (meaning c.loop-i.draft) c.loop-i.i) c.as_chunks.result.0.now c.loop-i.i c.loop-i-test.false in
     search rules

@@ -11,7 +11,7 @@ returns-in-Some c =
     sym (asked_is c.args.bytes.now (omega arith) (omega arith) (omega arith) ∙ first_is _ _ c.loop-v.v c.in-Some.refusal (omega arith) c.loop-v.invariant (sym c.in-Some.ensures))
 
 pub loop-v-preserved : goal.loop-v-preserved
-loop-v-preserved c = none_more _ _ c.loop-v.v c.loop-v.invariant (sym c.in-default.ensures)
+loop-v-preserved c = none_more _ _ c.loop-v.v c.loop-v.invariant (sym c.in_default.ensures)
 
 pub returns : goal.returns
 returns c =

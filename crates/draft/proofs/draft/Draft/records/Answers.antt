@@ -18,6 +18,6 @@ pub returns : goal.returns
 returns c = record {
   made =
       in_parts (meaning c.args.self.now) _ _ _ _ _ _ _ c.deref.ensures.value c.deref-2.ensures.value c.deref-3.ensures.value c.new-out.ensures.items
-      c.in-ok-put-states.ensures c.in-ok-put-nodes.ensures c.in-ok-put-all-rules.ensures;
+      c.in_ok-put_states.ensures c.in_ok-put_nodes.ensures c.in_ok-put_all_rules.ensures;
   loads = written_loads;
 }

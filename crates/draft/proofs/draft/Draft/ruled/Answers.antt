@@ -5,7 +5,7 @@ use Rattle.draft.proofs.AllBelow.{one_fails, none_fails}
 use Rattle.draft.proofs.draft.Draft.ruled.Goals as goal
 
 pub loop-letter-preserved : goal.loop-letter-preserved
-loop-letter-preserved c = below_more _ _ c.loop-letter.invariant (sym (ap is_some c.rule-at.ensures) ∙ c.if-is-none.ensures)
+loop-letter-preserved c = below_more _ _ c.loop-letter.invariant (sym (ap is_some c.rule_at.ensures) ∙ c.if-is_none.ensures)
 
 pub returns-then-is-none : goal.returns-then-is-none
 unfolding is_ruled

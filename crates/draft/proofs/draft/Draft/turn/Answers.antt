@@ -17,6 +17,6 @@ invariant-of-self c =
 
 pub returns : goal.returns
 returns c =
-    let s = refilled_map raised c.args.self.now.states _ _ c.deref-mut.ensures.value c.raise-states.ensures in
-    let n = refilled_map dual c.args.self.now.nodes _ _ c.deref-mut-2.ensures.value c.turn-nodes.ensures in
+    let s = refilled_map raised c.args.self.now.states _ _ c.deref_mut.ensures.value c.raise_states.ensures in
+    let n = refilled_map dual c.args.self.now.nodes _ _ c.deref_mut-2.ensures.value c.turn-nodes.ensures in
     search rules

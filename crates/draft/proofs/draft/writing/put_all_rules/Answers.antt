@@ -10,7 +10,7 @@ pub loop-q-preserved : goal.loop-q-preserved
 loop-q-preserved c =
     put_more (λ l. flat_map encoded (all_rule_calls c.loop-q.q l)) (λ l. flat_map encoded (all_rule_calls (c.loop-q.q + 1) l)) _ _ blank _ _ _
     (λ rest. joined_append encoded (rule_calls c.loop-q.q 0 (get_or c.args.states.now c.loop-q.q blank).rules) (all_rule_calls (c.loop-q.q + 1) rest))
-    c.loop-q-test.true c.in-ok-put-rules.ensures
+    c.loop-q-test.true c.in_ok-put_rules.ensures
     ∙ c.loop-q.invariant
 
 pub returns : goal.returns

@@ -10,7 +10,7 @@ use Rattle.draft.proofs.draft.writing.put_nodes.Goals as goal
 pub loop-n-preserved : goal.loop-n-preserved
 loop-n-preserved c =
     put_more (λ l. flat_map encoded (map node_call l)) (λ l. flat_map encoded (map node_call l)) _ _ (Leaf 0) _ _ _ (λ _. refl) c.loop-n-test.true
-    (c.in-ok-put.ensures ∙ ap (λ (t : Call). vec_items c.loop-n.out ++ encoded t) c.call-of.ensures)
+    (c.in_ok-put.ensures ∙ ap (λ (t : Call). vec_items c.loop-n.out ++ encoded t) c.call_of.ensures)
     ∙ c.loop-n.invariant
 
 pub returns : goal.returns

@@ -10,7 +10,7 @@ loop-letter-preserved c =
     let l : c.loop-letter.letter < length c.args.rules.now = omega arith in
     put_more (λ l. flat_map encoded (rule_calls c.args.state c.loop-letter.letter l)) (λ l. flat_map encoded (rule_calls c.args.state (c.loop-letter.letter + 1) l)) _ _ None _ _ _
     (λ rest. joined_append encoded (rule_call c.args.state c.loop-letter.letter (get_or c.args.rules.now c.loop-letter.letter None)) (rule_calls c.args.state (c.loop-letter.letter + 1) rest))
-    l c.in-ok-put-rule.ensures
+    l c.in_ok-put_rule.ensures
     ∙ c.loop-letter.invariant
 
 pub returns : goal.returns

@@ -7,7 +7,7 @@ use Rattle.draft.proofs.draft.writing.put_states.Goals as goal
 
 pub loop-s-preserved : goal.loop-s-preserved
 loop-s-preserved c =
-    put_more (λ l. flat_map encoded (map state_call l)) (λ l. flat_map encoded (map state_call l)) _ _ _ _ _ _ (λ _. refl) c.loop-s-test.true c.in-ok-put.ensures
+    put_more (λ l. flat_map encoded (map state_call l)) (λ l. flat_map encoded (map state_call l)) _ _ _ _ _ _ (λ _. refl) c.loop-s-test.true c.in_ok-put.ensures
     ∙ c.loop-s.invariant
 
 pub returns : goal.returns

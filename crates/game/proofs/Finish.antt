@@ -1,12 +1,14 @@
 -- The last pass.
-use Rattle.std.proofs.Common.{◌≡◌, ℕ, ◌+◌, ◌<◌, ◌≤◌, Bool, true, false, cond, ◌≢◌, ◌⊎◌, List, length, get_or, set, sym, ap, ◌∙◌, inl, inr, arith, get_or-set_other, get_or-set_same, below_more}
+use Rattle.std.proofs.Common.{◌≡◌, ℕ, ◌+◌, ◌<◌, ◌≤◌, Bool, true, false, cond, ◌≢◌, ◌⊎◌, List, length, get_or, set, sym, refl, ap, ◌∙◌, inl, inr, arith, get_or-set_other, get_or-set_same, below_more}
 use Rattle.std.proofs.lemmas.Bool.{cases_lt, cond-true, cond-false, and_from, and_left, and_right, lt-ltb, le-ltb}
 use Rattle.parity.specs.Game.{Game, favoured}
 use Rattle.parity.specs.Player.{same}
 use Rattle.parity.specs.Grading.{grade, distance}
 use Rattle.parity.specs.Move.{move_by}
+use denote.Enum.Bare.{sameb}
+use Rattle.parity.specs.contracts.player.Player.{the_type}
 use Rattle.parity.specs.declared.player.Player.{Player}
-use Rattle.parity.proofs.Players.{which, true_same, false_same}
+use Rattle.parity.specs.declared.player.Player.TheVariants.{Zero, One}
 use Rattle.parity.proofs.Moves.{move_same}
 use Rattle.arena.specs.Bounds.{Bounds}
 use Rattle.game.specs.Outcomes.{blank, outcome}
@@ -40,14 +42,17 @@ module _ (G : Game) (b : Bounds G) (v : ℕ) (before l : List Outcome) (v< : v <
     kept = λ k x. let ne : k ≢ v = omega arith in rw get_or-set_other (h.kept k x);
   }
 
+-- `==` on players, as the code has it
+equals : (x y : Player) → sameb the_type x y ≡ same x y
+equals Zero Zero = refl
+equals Zero One = refl
+equals One Zero = refl
+equals One One = refl
+
 -- which of the two rules gives the move, by the test r of the owner x and the favoured y
-module _ (G : Game) (l : List Outcome) (v : ℕ) (x y : Player) (r : Bool) (own : x ≡ G.owner v) (fav : y ≡ favoured G (grade_in l v)) (is : cond r (x ≡ y) (x ≡ y → ⊥)) where
+module _ (G : Game) (l : List Outcome) (v : ℕ) (x y : Player) (r : Bool) (own : x ≡ G.owner v) (fav : y ≡ favoured G (grade_in l v)) (is : r ≡ sameb the_type x y) where
   test : same (G.owner v) (favoured G (grade_in l v)) ≡ r
-  test = sym (λ i. same (own i) (fav i)) ∙ told r is
-    where
-      told : (t : Bool) → cond t (x ≡ y) (x ≡ y → ⊥) → same x y ≡ t
-      told true e = true_same x y e
-      told false n = elim (which x y) [ inl e ↦ absurd (n e) | inr e ↦ false_same x y e ]
+  test = sym (λ i. same (own i) (fav i)) ∙ sym (equals x y) ∙ sym is
 
   pub move_nearer : r ≡ true → 0 < distance_in l v → move_by G (grade_in l) (distance_in l) v ≡ first_nearer G l v
   unfolding move_by

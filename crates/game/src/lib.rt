@@ -1,5 +1,6 @@
 // Solves any arena: who wins each vertex, and by which move.
 #![tactic(auto)]
+
 mod moves;
 mod outcome;
 mod ranks;

@@ -11,8 +11,8 @@ use arena::Arena;
 
 // The least position at v that leads to the same grade and a smaller distance, or the degree.
 fn first_nearer<X: Arena>(arena: &X, out: &[Outcome], v: usize) -> usize
-    requires { ((meaning arena.now).count ≤ length out.now) × (v < (meaning arena.now).count) }
-    ensures { result ≡ first_nearer (meaning arena.now) out.now v }
+    requires { ((X.meaning arena.now).count ≤ length out.now) × (v < (X.meaning arena.now).count) }
+    ensures { result ≡ first_nearer (X.meaning arena.now) out.now v }
 {
     let here = out[v];
     let degree = arena.degree(v);
@@ -26,8 +26,8 @@ fn first_nearer<X: Arena>(arena: &X, out: &[Outcome], v: usize) -> usize
 
 // The least position at v that leads to a grade at least as large, or the degree.
 fn first_up<X: Arena>(arena: &X, out: &[Outcome], v: usize) -> usize
-    requires { ((meaning arena.now).count ≤ length out.now) × (v < (meaning arena.now).count) }
-    ensures { result ≡ first_up (meaning arena.now) out.now v }
+    requires { ((X.meaning arena.now).count ≤ length out.now) × (v < (X.meaning arena.now).count) }
+    ensures { result ≡ first_up (X.meaning arena.now) out.now v }
 {
     let here = out[v];
     let degree = arena.degree(v);
@@ -41,8 +41,8 @@ fn first_up<X: Arena>(arena: &X, out: &[Outcome], v: usize) -> usize
 
 // The move at v.
 fn choice<X: Arena>(arena: &X, out: &[Outcome], v: usize) -> usize
-    requires { ((meaning arena.now).count ≤ length out.now) × (v < (meaning arena.now).count) }
-    ensures { result ≡ move_by (meaning arena.now) (grade_in out.now) (distance_in out.now) v }
+    requires { ((X.meaning arena.now).count ≤ length out.now) × (v < (X.meaning arena.now).count) }
+    ensures { result ≡ move_by (X.meaning arena.now) (grade_in out.now) (distance_in out.now) v }
 {
     let here = out[v];
     if arena.owner(v) == favours(arena, here.grade) && 0 < here.distance {
@@ -54,16 +54,16 @@ fn choice<X: Arena>(arena: &X, out: &[Outcome], v: usize) -> usize
 
 // The same in a byte: there are at most 16 positions.
 fn position<X: Arena>(arena: &X, out: &[Outcome], v: usize) -> u8
-    requires { ((meaning arena.now).count ≤ length out.now) × (v < (meaning arena.now).count) }
-    ensures { result ≡ move_by (meaning arena.now) (grade_in out.now) (distance_in out.now) v }
+    requires { ((X.meaning arena.now).count ≤ length out.now) × (v < (X.meaning arena.now).count) }
+    ensures { result ≡ move_by (X.meaning arena.now) (grade_in out.now) (distance_in out.now) v }
 {
     choice(arena, out, v) as u8
 }
 
 // The record of v with its winner and its move.
 fn finished<X: Arena>(arena: &X, out: &[Outcome], v: usize) -> Outcome
-    requires { ((meaning arena.now).count ≤ length out.now) × (v < (meaning arena.now).count) }
-    ensures { result ≡ finished_by (meaning arena.now) out.now v }
+    requires { ((X.meaning arena.now).count ≤ length out.now) × (v < (X.meaning arena.now).count) }
+    ensures { result ≡ finished_by (X.meaning arena.now) out.now v }
 {
     let here = out[v];
     Outcome {
@@ -76,10 +76,10 @@ fn finished<X: Arena>(arena: &X, out: &[Outcome], v: usize) -> Outcome
 
 // Names the winner and the move of each vertex.
 pub(crate) fn finish<X: Arena>(arena: &X, out: &mut [Outcome])
-    requires room { (meaning arena.now).count ≤ length out.old }
-    requires ranked { (v : ℕ) → v < (meaning arena.now).count → slice_index_or out.old v blank ≡ ranked (meaning arena.now) v }
-    ensures finished { (v : ℕ) → v < (meaning arena.now).count → slice_index_or out.new v blank ≡ outcome (meaning arena.now) v }
-    ensures kept { Kept (meaning arena.now).count out.old out.new }
+    requires room { (X.meaning arena.now).count ≤ length out.old }
+    requires ranked { (v : ℕ) → v < (X.meaning arena.now).count → slice_index_or out.old v blank ≡ ranked (X.meaning arena.now) v }
+    ensures finished { (v : ℕ) → v < (X.meaning arena.now).count → slice_index_or out.new v blank ≡ outcome (X.meaning arena.now) v }
+    ensures kept { Kept (X.meaning arena.now).count out.old out.new }
 {
     for v in 0..arena.count() {
         out[v] = finished(arena, out, v);

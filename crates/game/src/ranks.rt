@@ -15,7 +15,7 @@ pub const UNGRADED: u16 = 65535;
 
 // The player whom priority p favours.
 pub(crate) fn favours<X: Arena>(arena: &X, p: u16) -> Player
-    ensures { result ≡ favoured (meaning arena.now) p }
+    ensures { result ≡ favoured (X.meaning arena.now) p }
 {
     let even = arena.even_side();
     if p % 2 == 0 { even } else { even.other() }
@@ -37,8 +37,8 @@ fn behind(o: Outcome, p: u16, d: u16) -> bool
 
 // The record of the successor of v at position i.
 pub(crate) fn ahead<X: Arena>(arena: &X, out: &[Outcome], v: usize, i: usize) -> Outcome
-    requires { (meaning arena.now).count ≤ length out.now }
-    ensures { result ≡ slice_index_or out.now ((meaning arena.now).successor v i) blank }
+    requires { (X.meaning arena.now).count ≤ length out.now }
+    ensures { result ≡ slice_index_or out.now ((X.meaning arena.now).successor v i) blank }
 {
     let u = arena.successor(v, i);
     out[u]
@@ -46,8 +46,8 @@ pub(crate) fn ahead<X: Arena>(arena: &X, out: &[Outcome], v: usize, i: usize) ->
 
 // Whether some successor of v has grade p and a distance below d.
 fn some_near<X: Arena>(arena: &X, out: &[Outcome], p: u16, d: u16, v: usize) -> bool
-    requires { (meaning arena.now).count ≤ length out.now }
-    ensures { result ≡ some_near (meaning arena.now) out.now p d v }
+    requires { (X.meaning arena.now).count ≤ length out.now }
+    ensures { result ≡ some_near (X.meaning arena.now) out.now p d v }
 {
     for i in 0..arena.degree(v) {
         if near(ahead(arena, out, v, i), p, d) {
@@ -59,8 +59,8 @@ fn some_near<X: Arena>(arena: &X, out: &[Outcome], p: u16, d: u16, v: usize) -> 
 
 // Whether each successor of v has a grade below p, or grade p and a distance below d.
 fn all_behind<X: Arena>(arena: &X, out: &[Outcome], p: u16, d: u16, v: usize) -> bool
-    requires { (meaning arena.now).count ≤ length out.now }
-    ensures { result ≡ all_behind (meaning arena.now) out.now p d v }
+    requires { (X.meaning arena.now).count ≤ length out.now }
+    ensures { result ≡ all_behind (X.meaning arena.now) out.now p d v }
 {
     for i in 0..arena.degree(v) {
         if !behind(ahead(arena, out, v, i), p, d) {
@@ -72,8 +72,8 @@ fn all_behind<X: Arena>(arena: &X, out: &[Outcome], p: u16, d: u16, v: usize) ->
 
 // Whether v has no grade yet, and now gets grade p and distance d.
 fn joins<X: Arena>(arena: &X, out: &[Outcome], p: u16, d: u16, v: usize) -> bool
-    requires { ((meaning arena.now).count ≤ length out.now) × (v < (meaning arena.now).count) }
-    ensures { result ≡ joins_now (meaning arena.now) out.now p d v }
+    requires { ((X.meaning arena.now).count ≤ length out.now) × (v < (X.meaning arena.now).count) }
+    ensures { result ≡ joins_now (X.meaning arena.now) out.now p d v }
 {
     if out[v].grade != UNGRADED {
         false
@@ -88,12 +88,12 @@ fn joins<X: Arena>(arena: &X, out: &[Outcome], p: u16, d: u16, v: usize) -> bool
 
 // Gives distance d to the vertices of grade p that have it, and says whether there are any.
 fn round<X: Arena>(arena: &X, out: &mut [Outcome], p: u16, d: u16) -> bool
-    requires room { (meaning arena.now).count ≤ length out.old }
+    requires room { (X.meaning arena.now).count ≤ length out.old }
     requires small { p ≤ 9999 }
-    requires filled { Filled (meaning arena.now) p d out.old }
-    ensures filled { Filled (meaning arena.now) p (d + 1) out.new }
-    ensures found { result ≡ some_below (meaning arena.now).count (gets (meaning arena.now) p d) }
-    ensures kept { Kept (meaning arena.now).count out.old out.new }
+    requires filled { Filled (X.meaning arena.now) p d out.old }
+    ensures filled { Filled (X.meaning arena.now) p (d + 1) out.new }
+    ensures found { result ≡ some_below (X.meaning arena.now).count (gets (X.meaning arena.now) p d) }
+    ensures kept { Kept (X.meaning arena.now).count out.old out.new }
 {
     let mut found = false;
     for v in 0..arena.count() {
@@ -112,11 +112,11 @@ fn round<X: Arena>(arena: &X, out: &mut [Outcome], p: u16, d: u16) -> bool
 
 // Gives grade p to the vertices that have it, distance by distance.
 fn stage<X: Arena>(arena: &X, out: &mut [Outcome], p: u16)
-    requires room { (meaning arena.now).count ≤ length out.old }
+    requires room { (X.meaning arena.now).count ≤ length out.old }
     requires small { p ≤ 9999 }
-    requires filled { Filled (meaning arena.now) p 0 out.old }
-    ensures filled { Filled (meaning arena.now) (p + 1) 0 out.new }
-    ensures kept { Kept (meaning arena.now).count out.old out.new }
+    requires filled { Filled (X.meaning arena.now) p 0 out.old }
+    ensures filled { Filled (X.meaning arena.now) (p + 1) 0 out.new }
+    ensures kept { Kept (X.meaning arena.now).count out.old out.new }
 {
     let mut d = 0;
     while round(arena, out, p, d) {
@@ -142,8 +142,8 @@ fn clear(out: &mut [Outcome], n: usize)
 
 // The priority of v while it has no grade, else UNGRADED. A graded vertex is not asked about.
 fn open_priority<X: Arena>(arena: &X, out: &[Outcome], v: usize) -> u16
-    requires { ((meaning arena.now).count ≤ length out.now) × (v < (meaning arena.now).count) }
-    ensures { result ≡ open_level (meaning arena.now) out.now v }
+    requires { ((X.meaning arena.now).count ≤ length out.now) × (v < (X.meaning arena.now).count) }
+    ensures { result ≡ open_level (X.meaning arena.now) out.now v }
 {
     if out[v].grade == UNGRADED {
         arena.priority(v)
@@ -154,8 +154,8 @@ fn open_priority<X: Arena>(arena: &X, out: &[Outcome], v: usize) -> u16
 
 // The least priority of a vertex that has no grade yet, if there is one.
 fn least_open<X: Arena>(arena: &X, out: &[Outcome]) -> Option<u16>
-    requires { (meaning arena.now).count ≤ length out.now }
-    ensures { LeastOpen (meaning arena.now) out.now result }
+    requires { (X.meaning arena.now).count ≤ length out.now }
+    ensures { LeastOpen (X.meaning arena.now) out.now result }
 {
     let mut least = UNGRADED;
     for v in 0..arena.count() {
@@ -169,9 +169,9 @@ fn least_open<X: Arena>(arena: &X, out: &[Outcome]) -> Option<u16>
 
 // Gives each vertex its grade and distance.
 pub(crate) fn rank<X: Arena>(arena: &X, out: &mut [Outcome])
-    requires { (meaning arena.now).count ≤ length out.old }
-    ensures ranked { (v : ℕ) → v < (meaning arena.now).count → slice_index_or out.new v blank ≡ ranked (meaning arena.now) v }
-    ensures kept { Kept (meaning arena.now).count out.old out.new }
+    requires { (X.meaning arena.now).count ≤ length out.old }
+    ensures ranked { (v : ℕ) → v < (X.meaning arena.now).count → slice_index_or out.new v blank ≡ ranked (X.meaning arena.now) v }
+    ensures kept { Kept (X.meaning arena.now).count out.old out.new }
 {
     clear(out, arena.count());
     let mut next = least_open(arena, out);

@@ -11,9 +11,9 @@ use refusal::Refusal;
 
 // Writes one record a vertex, or refuses where there are fewer records than vertices.
 pub fn solve<X: Arena>(arena: &X, out: &mut [Outcome]) -> Result<(), Refusal>
-    ensures solved { (result, out.new) ≡ solved (meaning arena.now) out.old }
-    ensures reported { (meaning arena.now).count ≤ length out.old → Reported (meaning arena.now) out.new }
-    ensures determined { Determined (meaning arena.now) }
+    ensures solved { (result, out.new) ≡ solved (X.meaning arena.now) out.old }
+    ensures reported { (X.meaning arena.now).count ≤ length out.old → Reported (X.meaning arena.now) out.new }
+    ensures determined { Determined (X.meaning arena.now) }
 {
     if out.len() < arena.count() {
         return Err(Refusal::Room);

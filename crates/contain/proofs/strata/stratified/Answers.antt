@@ -7,13 +7,13 @@ use Rattle.inclusion.specs.Stratified.{is_stratified}
 use Rattle.contain.proofs.strata.stratified.Goals as goal
 
 pub loop-state-preserved : goal.loop-state-preserved
-loop-state-preserved c = below_more _ _ c.loop-state.invariant (sym c.if-not-state-is-low.ensures)
+loop-state-preserved c = below_more _ _ c.loop-state.invariant (sym c.if-not-state_is_low.ensures)
 
-pub returns-then-not-state-is-low : goal.returns-then-not-state-is-low
+pub returns-then-not-state_is_low : goal.returns-then-not-state_is_low
 unfolding is_stratified
-returns-then-not-state-is-low c =
+returns-then-not-state_is_low c =
     let l : c.loop-state.state < state_count (meaning c.args.draft.now) = omega arith in
-    one_fails _ _ _ l (sym c.if-not-state-is-low.ensures)
+    one_fails _ _ _ l (sym c.if-not-state_is_low.ensures)
 
 pub returns : goal.returns
 unfolding is_stratified

@@ -6,9 +6,9 @@ use Rattle.draft.specs.Meaning.{meaning}
 use Rattle.draft.proofs.Folds.{take_more, take_stop}
 use Rattle.draft.proofs.loading.load.Goals as goal
 
-pub returns-in-err-take : goal.returns-in-err-take
-returns-in-err-take c =
-    let s = take_stop _ _ _ _ _ c.loop-i-test.true c.in-err-take.ensures in
+pub returns-in_err-take : goal.returns-in_err-take
+returns-in_err-take c =
+    let s = take_stop _ _ _ _ _ c.loop-i-test.true c.in_err-take.ensures in
     search rules
 
 pub loop-i-preserved : goal.loop-i-preserved

@@ -8,7 +8,7 @@ loop-next-init g c =
     let G = g.X.Arena.meaning c.args.arena.now in
     let b = g.X.Arena.bounds c.args.arena.now in
     let f = none_yet G b c.clear.new.out (λ v v<. c.clear.ensures.cleared v (omega arith)) in
-    (advance G b 0 _ (omega arith) f _ c.least-open-next.ensures, c.least-open-next.ensures, λ v h. refl)
+    (advance G b 0 _ (omega arith) f _ c.least_open-next.ensures, c.least_open-next.ensures, λ v h. refl)
 
 pub stage-requires : goal.stage-requires
 stage-requires g c =
@@ -26,15 +26,15 @@ loop-next-smaller g c =
     let b = g.X.Arena.bounds c.args.arena.now in
     let is = ap or_end c.in-Some.is in
     let small = small_open G b c.loop-next.out c.in-Some.p (subst (LeastOpen G c.loop-next.out) c.in-Some.is c.loop-next.invariant.1) in
-    omega (arith, rises G b (c.in-Some.p + 1) _ (omega arith) c.stage.ensures.filled _ c.least-open-next-in-Some.ensures)
+    omega (arith, rises G b (c.in-Some.p + 1) _ (omega arith) c.stage.ensures.filled _ c.least_open-next-in-Some.ensures)
 
 pub loop-next-preserved : goal.loop-next-preserved
 loop-next-preserved g c =
     let G = g.X.Arena.meaning c.args.arena.now in
     let b = g.X.Arena.bounds c.args.arena.now in
     let small = small_open G b c.loop-next.out c.in-Some.p (subst (LeastOpen G c.loop-next.out) c.in-Some.is c.loop-next.invariant.1) in (
-      advance G b (c.in-Some.p + 1) _ (omega arith) c.stage.ensures.filled _ c.least-open-next-in-Some.ensures,
-      c.least-open-next-in-Some.ensures,
+      advance G b (c.in-Some.p + 1) _ (omega arith) c.stage.ensures.filled _ c.least_open-next-in-Some.ensures,
+      c.least_open-next-in-Some.ensures,
       λ v h. c.stage.ensures.kept v h ∙ c.loop-next.invariant.2 v h,
     )
 
@@ -42,7 +42,7 @@ pub returns : goal.returns
 returns g c =
     let G = g.X.Arena.meaning c.args.arena.now in
     let b = g.X.Arena.bounds c.args.arena.now in
-    let is = ap or_end c.in-default.is in
+    let is = ap or_end c.in_default.is in
     record {
       ranked = all_done G b _ c.loop-next.out (omega arith) c.loop-next.invariant.0;
       kept = λ v h. c.loop-next.invariant.2 v h ∙ c.clear.ensures.kept v (omega arith);

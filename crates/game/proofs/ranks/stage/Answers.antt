@@ -2,8 +2,8 @@ use Rattle.std.proofs.Common.{◌<◌, sym, ◌∙◌, arith, rules}
 use Rattle.game.proofs.Rounds.{found_below, stage_ends}
 use Rattle.game.proofs.ranks.stage.Goals as goal
 
-pub overflow-add-d : goal.overflow-add-d
-overflow-add-d g c =
+pub overflow_add-d : goal.overflow_add-d
+overflow_add-d g c =
     let G = g.X.Arena.meaning c.args.arena.now in
     let b = g.X.Arena.bounds c.args.arena.now in
     let s : c.loop-d.d < 65535 = omega (arith, found_below G b c.args.p c.loop-d.d (sym c.round.ensures.found ∙ c.loop-d-test.true), b.few) in

@@ -3,11 +3,11 @@ use Rattle.std.proofs.Common.{rules}
 use Rattle.draft.proofs.Histories.{histories_keep}
 use Rattle.draft.proofs.draft.Draft.new.Goals as goal
 
-pub returns-in-err-states : goal.returns-in-err-states
-returns-in-err-states c = record { made = search rules; kept = histories_keep }
+pub returns-in_err-states : goal.returns-in_err-states
+returns-in_err-states c = record { made = search rules; kept = histories_keep }
 
-pub returns-in-err-nodes : goal.returns-in-err-nodes
-returns-in-err-nodes c = record { made = search rules; kept = histories_keep }
+pub returns-in_err-nodes : goal.returns-in_err-nodes
+returns-in_err-nodes c = record { made = search rules; kept = histories_keep }
 
 pub returns : goal.returns
 returns c = record { made = search rules; kept = histories_keep }

@@ -5,14 +5,14 @@ use Rattle.draft.proofs.Reloads.{written_loads}
 use Rattle.draft.proofs.WrittenParts.{in_parts}
 use Rattle.draft.proofs.draft.Draft.records.Goals as goal
 
-pub returns-in-err-put-states : goal.returns-in-err-put-states
-returns-in-err-put-states c = record { made = search rules; loads = written_loads }
+pub returns-in_err-put_states : goal.returns-in_err-put_states
+returns-in_err-put_states c = record { made = search rules; loads = written_loads }
 
-pub returns-in-err-put-nodes : goal.returns-in-err-put-nodes
-returns-in-err-put-nodes c = record { made = search rules; loads = written_loads }
+pub returns-in_err-put_nodes : goal.returns-in_err-put_nodes
+returns-in_err-put_nodes c = record { made = search rules; loads = written_loads }
 
-pub returns-in-err-put-all-rules : goal.returns-in-err-put-all-rules
-returns-in-err-put-all-rules c = record { made = search rules; loads = written_loads }
+pub returns-in_err-put_all_rules : goal.returns-in_err-put_all_rules
+returns-in_err-put_all_rules c = record { made = search rules; loads = written_loads }
 
 pub returns : goal.returns
 returns c = record {

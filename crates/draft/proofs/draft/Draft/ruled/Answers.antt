@@ -7,9 +7,9 @@ use Rattle.draft.proofs.draft.Draft.ruled.Goals as goal
 pub loop-letter-preserved : goal.loop-letter-preserved
 loop-letter-preserved c = below_more _ _ c.loop-letter.invariant (sym (ap is_some c.rule_at.ensures) ∙ c.if-is_none.ensures)
 
-pub returns-then-is-none : goal.returns-then-is-none
+pub returns-then-is_none : goal.returns-then-is_none
 unfolding is_ruled
-returns-then-is-none c = one_fails _ _ _ c.loop-letter-test.true (sym (ap is_some c.rule-at.ensures) ∙ c.if-is-none.ensures)
+returns-then-is_none c = one_fails _ _ _ c.loop-letter-test.true (sym (ap is_some c.rule_at.ensures) ∙ c.if-is_none.ensures)
 
 pub returns : goal.returns
 unfolding is_ruled

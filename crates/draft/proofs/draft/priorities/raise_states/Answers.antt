@@ -9,8 +9,8 @@ use Rattle.draft.proofs.InPlace.{rest_same}
 use Rattle.draft.proofs.Turns.{can_raise}
 use Rattle.draft.proofs.draft.priorities.raise_states.Goals as goal
 
-pub overflow-add-s : goal.overflow-add-s
-overflow-add-s c =
+pub overflow_add-s : goal.overflow_add-s
+overflow_add-s c =
     let b = can_raise c.args.states.now c.loop-s.s-index c.requires c.loop-s-test.true in
     let e = ap (λ (s : State). s.priority) (rest_same blank raised _ _ _ c.loop-s-test.true c.loop-s.invariant) in
     search rules

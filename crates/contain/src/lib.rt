@@ -1,5 +1,6 @@
 // Containment of one draft in another, by a game on pairs of their states and nodes.
 #![tactic(auto)]
+
 mod containing;
 mod fault;
 mod pair;

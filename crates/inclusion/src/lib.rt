@@ -1,6 +1,7 @@
 // Containment of one automaton in another by a game on pairs: the definitions in specs/, and what is proved about every two
 // automata. The functions below do nothing; the contract of each is a theorem.
 #![tactic(auto)]
+
 mod place;
 
 ghost use Rattle.inclusion.specs.Exchange.{Exchange};

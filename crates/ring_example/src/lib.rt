@@ -1,5 +1,6 @@
 // An arena of a buyer's own: stations in a ring hand a token on. It uses the trait and the solver alone.
 #![tactic(auto)]
+
 mod ring;
 
 ghost use Rattle.std.specs.Prelude.{◌≡◌};

@@ -1,5 +1,6 @@
 // Repeating words: their letters, the word arena of a draft, and acceptance.
 #![tactic(auto)]
+
 mod accepting;
 mod letters;
 mod verdict;

@@ -1,5 +1,6 @@
 // The call for C: whether one draft file is contained in another.
 #![tactic(auto)]
+
 ghost use Rattle.std.specs.Prelude.{◌≡◌};
 ghost use Rattle.draft.specs.Load.{load_file};
 ghost use Rattle.draft.specs.Meaning.{meaning as automaton};

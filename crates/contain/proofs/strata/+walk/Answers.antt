@@ -11,12 +11,12 @@ use Rattle.contain.proofs.strata.+walk.Goals.{in-Leaf, in-Either+then-walk, in-E
 
 pub walk-requires : goal.walk-requires
 walk-requires t c =
-    let before = parts_before (meaning c.args.draft.now) (draft_well_formed c.args.draft.now) c.args.node c.requires.0 _ c.node_at-shape.ensures c.in-Either.left c.in-Either.right c.in-Either.is in
-    (omega arith, (omega arith, c.requires.1))
+    let before = parts_before (meaning c.args.draft.now) (draft_well_formed c.args.draft.now) c.args.node c.requires.node_bound _ c.node_at-shape.ensures c.in-Either.left c.in-Either.right c.in-Either.is in
+    (omega arith, (omega arith, c.requires.marked_low))
 
 pub walk-requires-then-walk : goal.walk-requires-then-walk
 walk-requires-then-walk t c =
-    let before = parts_before (meaning c.args.draft.now) (draft_well_formed c.args.draft.now) c.args.node c.requires.0 _ c.node_at-shape.ensures c.in-Either.left c.in-Either.right c.in-Either.is in
+    let before = parts_before (meaning c.args.draft.now) (draft_well_formed c.args.draft.now) c.args.node c.requires.node_bound _ c.node_at-shape.ensures c.in-Either.left c.in-Either.right c.in-Either.is in
     (omega arith, (omega arith, c.walk.ensures.marked c.if-walk.true))
 
 pub returns : goal.returns
@@ -26,13 +26,13 @@ returns t c =
     let low = is_low a c.args.limit in
     let value : c.match-shape.low ≡ low c.args.node =
     elim c.match-shape.branch [
-      | in-Leaf w ↦ w.low-is ∙ ap (λ p. leb p c.args.limit) w.priority_at.ensures ∙ sym (leaf_low a wf c.args.node c.requires.0 _ c.node_at-shape.ensures c.args.limit w.in-Leaf.state w.in-Leaf.is)
-      | in-Either+then-walk w ↦ w.low-is ∙ w.walk-then-walk.ensures.value ∙ sym (pair_low a wf c.args.node c.requires.0 _ c.node_at-shape.ensures w.in-Either.left w.in-Either.right w.in-Either.is c.args.limit ∙ ap (λ l. l && low w.in-Either.right) (sym w.walk.ensures.value ∙ w.if-walk.true))
-      | in-Either+else-walk w ↦ w.low-is ∙ w.if-walk.false ∙ sym (pair_low a wf c.args.node c.requires.0 _ c.node_at-shape.ensures w.in-Either.left w.in-Either.right w.in-Either.is c.args.limit ∙ ap (λ l. l && low w.in-Either.right) (sym w.walk.ensures.value ∙ w.if-walk.false))
+      | in-Leaf w ↦ w.low-is ∙ ap (λ p. leb p c.args.limit) w.priority_at.ensures ∙ sym (leaf_low a wf c.args.node c.requires.node_bound _ c.node_at-shape.ensures c.args.limit w.in-Leaf.state w.in-Leaf.is)
+      | in-Either+then-walk w ↦ w.low-is ∙ w.walk-then-walk.ensures.value ∙ sym (pair_low a wf c.args.node c.requires.node_bound _ c.node_at-shape.ensures w.in-Either.left w.in-Either.right w.in-Either.is c.args.limit ∙ ap (λ l. l && low w.in-Either.right) (sym w.walk.ensures.value ∙ w.if-walk.true))
+      | in-Either+else-walk w ↦ w.low-is ∙ w.if-walk.false ∙ sym (pair_low a wf c.args.node c.requires.node_bound _ c.node_at-shape.ensures w.in-Either.left w.in-Either.right w.in-Either.is c.args.limit ∙ ap (λ l. l && low w.in-Either.right) (sym w.walk.ensures.value ∙ w.if-walk.false))
     ] in
     let before : c.match-shape.low ≡ true → MarkedLow a c.args.limit c.match-shape.marks =
     λ e. elim c.match-shape.branch [
-      | in-Leaf w ↦ subst (MarkedLow a c.args.limit) (sym w.marks-is) c.requires.1
+      | in-Leaf w ↦ subst (MarkedLow a c.args.limit) (sym w.marks-is) c.requires.marked_low
       | in-Either+then-walk w ↦ subst (MarkedLow a c.args.limit) (sym w.marks-is) (w.walk-then-walk.ensures.marked (sym w.low-is ∙ e))
       | in-Either+else-walk w ↦ absurd (both_ways _ (w.low-is ∙ w.if-walk.false) e)
     ] in

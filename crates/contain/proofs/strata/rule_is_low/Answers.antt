@@ -8,4 +8,7 @@ use Rattle.contain.proofs.strata.rule_is_low.Goals as goal
 pub walk-requires : goal.walk-requires
 walk-requires c =
     let a = meaning c.args.draft.now in
-    ((draft_well_formed c.args.draft.now).named c.args.state c.args.letter c.in-Some.node (sym c.in-Some.ensures), none_marked a _ 128)
+    record {
+      node_bound = (draft_well_formed c.args.draft.now).named c.args.state c.args.letter c.in-Some.node (sym c.in-Some.ensures);
+      marked_low = none_marked a _ 128;
+    }

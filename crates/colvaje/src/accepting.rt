@@ -43,16 +43,16 @@ pub(crate) fn decide<'a>(
 }
 
 fn print_question(rt: &HostRuntime, state: usize, prefix: &[u8], period: &[u8]) -> io::Result<()> {
-    print!(rt, "asked: is it accepted from s{state}, the word ")?;
+    print!(rt; "asked: is it accepted from s{state}, the word ")?;
     print_letters(rt, prefix)?;
-    print!(rt, "(")?;
+    print!(rt; "(")?;
     print_letters(rt, period)?;
     println!(rt; ") for ever?")
 }
 
 fn print_letters(rt: &HostRuntime, letters: &[u8]) -> io::Result<()> {
     for letter in letters {
-        print!(rt, "{letter:x}")?;
+        print!(rt; "{letter:x}")?;
     }
     Ok(())
 }
@@ -76,8 +76,8 @@ fn print_reason<'a>(
 impl Told for WordPlace {
     fn tell(&self, rt: &HostRuntime) -> io::Result<()> {
         match *self {
-            WordPlace::AtState(step, state) => print!(rt, "step {step} s{state}"),
-            WordPlace::AtNode(step, node) => print!(rt, "step {step} n{node}"),
+            WordPlace::AtState(step, state) => print!(rt; "step {step} s{state}"),
+            WordPlace::AtNode(step, node) => print!(rt; "step {step} n{node}"),
         }
     }
 }

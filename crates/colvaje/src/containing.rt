@@ -71,8 +71,8 @@ fn pair_vertex(first_state: usize, second_states: usize, second_state: usize) ->
 impl Told for PairPlace {
     fn tell(&self, rt: &HostRuntime) -> io::Result<()> {
         match *self {
-            PairPlace::AtStates(p, q) => print!(rt, "s{p} and s{q}"),
-            PairPlace::AtNodes(x, y) => print!(rt, "n{x} and n{y}"),
+            PairPlace::AtStates(p, q) => print!(rt; "s{p} and s{q}"),
+            PairPlace::AtNodes(x, y) => print!(rt; "n{x} and n{y}"),
         }
     }
 }

@@ -1,5 +1,6 @@
 // The program: games, drafts, words and containment by hand. It only reads, asks the library and prints.
 #![tactic(auto)]
+
 mod accepting;
 mod command;
 mod containing;

@@ -62,9 +62,9 @@ fn follow<X: Arena>(
 where
     X::Place: Told + Drop,
 {
-    print!(rt, "  ")?;
+    print!(rt; "  ")?;
     arena.place(v).tell(rt)?;
-    print!(rt, " leads to")?;
+    print!(rt; " leads to")?;
     let chosen = match records.get(v) {
         Some(o) => o.choice as usize,
         None => 0,
@@ -72,9 +72,9 @@ where
     for i in 0..arena.degree(v) {
         if arena.owner(v) != winner || i == chosen {
             let next = arena.successor(v, i);
-            print!(rt, " [")?;
+            print!(rt; " [")?;
             arena.place(next).tell(rt)?;
-            print!(rt, "]")?;
+            print!(rt; "]")?;
             reach(seen, places, next)?;
         }
     }

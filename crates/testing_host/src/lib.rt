@@ -1,6 +1,7 @@
 // For benchmarks and for tests from other languages: the calls over numbers and bytes. No part of the product; nothing is
 // promised of the encodings.
 #![tactic(auto)]
+
 mod drafts;
 mod files;
 mod games;

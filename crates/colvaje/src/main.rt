@@ -13,7 +13,8 @@ mod why;
 
 use command::{Command, parse, usage};
 use failure::Failure;
-use std::{env, io};
+use std::env;
+use std::process::ExitCode;
 
 // The words after the program's name.
 fn arguments(rt: &HostRuntime) -> Result<Vec<String>, Failure> {
@@ -37,12 +38,12 @@ fn run(rt: &HostRuntime) -> Result<(), Failure> {
     }
 }
 
-fn main(rt: HostRuntime) -> io::Result<()> {
+fn main(rt: HostRuntime) -> ExitCode {
     match run(&rt) {
-        Ok(()) => Ok(()),
-        Err(failure) => {
-            failure.print(&rt)?;
-            Err(io::Error::from(io::ErrorKind::Other))
-        }
+        Ok(()) => ExitCode::SUCCESS,
+        // where even this cannot be printed, the status says it
+        Err(failure) => match failure.print(&rt) {
+            Ok(()) | Err(_) => ExitCode::FAILURE,
+        },
     }
 }

@@ -1,4 +1,4 @@
-// The call for C: whether one draft file is contained in another.
+// The call for C: whether one draft file is contained in another. The crate `colvaje_host_c` exports it.
 #![tactic(auto)]
 
 ghost use Rattle.std.specs.Prelude.{◌≡◌};
@@ -23,8 +23,7 @@ const UNSOLVED: Outcome = Outcome {
 };
 
 // 0 not shown, 1 contained; a refusal is 1,000 times the draft that it speaks of, or 0, plus 100 and its number.
-#[unsafe(no_mangle)]
-pub extern "C" fn colvaje_contain(
+pub fn colvaje_contain(
     letters: u32,
     first: &[u8],
     second: &[u8],

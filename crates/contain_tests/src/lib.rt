@@ -1,5 +1,6 @@
 // Tests of containment and of the call for C.
 #![tactic(auto)]
+
 #[cfg(test)]
 mod drafts;
 #[cfg(test)]

@@ -1,4 +1,5 @@
 // Tests of drafts: refusals in their order, limits, and the faults of loading.
 #![tactic(auto)]
+
 mod calls;
 mod files;

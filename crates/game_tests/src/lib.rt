@@ -1,5 +1,6 @@
 // Tests of arenas and solve, apart from their crates, so that those are proved once.
 #![tactic(auto)]
+
 #[cfg(test)]
 mod bytes;
 #[cfg(test)]

@@ -1,5 +1,6 @@
 // Tests of words and acceptance.
 #![tactic(auto)]
+
 #[cfg(test)]
 mod acceptance;
 #[cfg(test)]

@@ -2,20 +2,25 @@
 use refusal::Refusal;
 use word::step;
 
+// What step answers where the bytes are the rest of the piece.
+fn rest(bytes: &[u8]) -> Result<&[u8], Refusal> {
+    Ok(bytes)
+}
+
 #[test]
 fn in_the_prefix_and_at_its_end(rt: HostRuntime) {
-    assert_eq!(rt; step(&[1, 2], &[3, 4, 5], 0), Ok(&[1, 2]));
-    assert_eq!(rt; step(&[1, 2], &[3, 4, 5], 1), Ok(&[2]));
-    assert_eq!(rt; step(&[1, 2], &[3, 4, 5], 2), Ok(&[3, 4, 5]));
-    assert_eq!(rt; step(&[], &[7], 0), Ok(&[7]));
+    assert_eq!(rt; step(&[1, 2], &[3, 4, 5], 0), rest(&[1, 2]));
+    assert_eq!(rt; step(&[1, 2], &[3, 4, 5], 1), rest(&[2]));
+    assert_eq!(rt; step(&[1, 2], &[3, 4, 5], 2), rest(&[3, 4, 5]));
+    assert_eq!(rt; step(&[], &[7], 0), rest(&[7]));
 }
 
 #[test]
 fn far_in_the_period(rt: HostRuntime) {
-    assert_eq!(rt; step(&[1, 2], &[3, 4, 5], 6), Ok(&[4, 5]));
-    assert_eq!(rt; step(&[1, 2], &[3, 4, 5], 3_000_001), Ok(&[5]));
+    assert_eq!(rt; step(&[1, 2], &[3, 4, 5], 6), rest(&[4, 5]));
+    assert_eq!(rt; step(&[1, 2], &[3, 4, 5], 3_000_001), rest(&[5]));
     // 2^64 - 1 - 2 is a multiple of 3 and 1 more
-    assert_eq!(rt; step(&[1, 2], &[3, 4, 5], usize::MAX), Ok(&[4, 5]));
+    assert_eq!(rt; step(&[1, 2], &[3, 4, 5], usize::MAX), rest(&[4, 5]));
 }
 
 #[test]

@@ -1,7 +1,6 @@
 -- The number that the call for C answers.
 use Rattle.std.specs.Prelude.{◌≡◌, ℕ, ◌+◌, ◌*◌, Bool, cond, List, replicate, Some, None, Ok, Err, Option, Result}
 use Rattle.refusal.specs.Numbers.{number_of}
-use Rattle.game.specs.declared.outcome.Outcome.{Outcome}
 use Rattle.game.specs.Outcomes.{blank}
 use Rattle.draft.specs.Automaton.{Automaton, empty}
 use Rattle.draft.specs.Load.{Loaded, load_file}

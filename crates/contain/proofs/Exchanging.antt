@@ -1,7 +1,6 @@
 -- Both automata turned and exchanged: the questions come to the same refusal or to the same verdict.
-use Rattle.std.proofs.Common.{◌≡◌, ℕ, ◌+◌, ◌*◌, Bool, true, false, cond, eqb, ltb, leb, List, length, Ok, Err, Result, sym, refl, ap, ◌∙◌, subst, ap₂, inl, inr, mul_comm, arith}
+use Rattle.std.proofs.Common.{◌≡◌, ℕ, ◌+◌, ◌*◌, Bool, true, false, cond, eqb, ltb, leb, List, length, Ok, Err, sym, refl, ap, ◌∙◌, ap₂, inl, inr, mul_comm}
 use Rattle.std.proofs.lemmas.Bool.{both_ways, cases_eq, eq-eqb, ne_eqb, eqb-true, ltb-true}
-use Rattle.refusal.specs.declared.Refusal.{Refusal}
 use Rattle.refusal.specs.declared.Refusal.TheVariants.{Room}
 use Rattle.game.specs.declared.outcome.Outcome.{Outcome}
 use Rattle.game.specs.Outcomes.{solved}

@@ -2,7 +2,6 @@
 use Rattle.std.proofs.Common.{◌≡◌, ℕ, List, refl, ap, subst}
 use Rattle.parity.proofs.Determined as theorem
 use Rattle.game.specs.declared.outcome.Outcome.{Outcome}
-use Rattle.draft.specs.Automaton.{Automaton}
 use Rattle.draft.specs.Calls.{Outcome as Called}
 use Rattle.draft.proofs.Histories.{histories_keep}
 use Rattle.draft.proofs.TurnLaws.{heeded}

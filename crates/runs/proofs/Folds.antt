@@ -4,7 +4,7 @@ use native.Mathlib.Nat.{mod-add-mod, mod_self, zero-mod}
 use Rattle.std.proofs.lemmas.Bool.{cases_lt, cases_eq, lt-ltb, le-ltb, eq-eqb, ne_eqb, cond-true, cond-false}
 use Rattle.std.proofs.lemmas.Nat.{mod_below}
 use Rattle.runs.specs.Word.{letter, Readable}
-use Rattle.runs.specs.WordGame.{steps, next_step}
+use Rattle.runs.specs.WordGame.{next_step}
 
 module _ (prefix period : List ℕ) where
   -- the step that stands for step i of the unending word

@@ -1,9 +1,8 @@
 -- The record of the pair that was asked about.
-use Rattle.std.proofs.Common.{◌≡◌, ◌+◌, ◌*◌, ◌<◌, length, get_or, Ok, sym, ap, ◌∙◌, arith}
+use Rattle.std.proofs.Common.{◌+◌, ◌*◌, get_or, Ok, sym, ap, ◌∙◌, arith}
 use Rattle.game.specs.Outcomes.{blank}
 use Rattle.draft.specs.Meaning.{meaning}
 use Rattle.draft.proofs.Drafts.{draft_well_formed}
-use Rattle.inclusion.specs.PairGame.{states_at}
 use Rattle.contain.specs.Containing.{verdict_of}
 use Rattle.contain.proofs.Judging.{same_game, solved_by, room}
 use Rattle.contain.proofs.containing.decide.Goals as goal

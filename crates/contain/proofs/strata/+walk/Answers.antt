@@ -1,5 +1,5 @@
 -- The value at a node by those of its children, and the marks after it.
-use Rattle.std.proofs.Common.{◌≡◌, true, false, ◌&&◌, leb, sym, ap, ◌∙◌, subst, arith}
+use Rattle.std.proofs.Common.{◌≡◌, true, ◌&&◌, leb, sym, ap, ◌∙◌, subst, arith}
 use Rattle.std.proofs.lemmas.Bool.{both_ways}
 use Rattle.draft.specs.Meaning.{meaning}
 use Rattle.draft.proofs.Drafts.{draft_well_formed}

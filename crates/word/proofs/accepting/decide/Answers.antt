@@ -1,5 +1,4 @@
 use Rattle.std.proofs.Common.{Ok, sym, ap, ◌∙◌, arith, rules}
-use Rattle.game.specs.Outcomes.{solved}
 use Rattle.draft.specs.Meaning.{meaning}
 use Rattle.draft.proofs.Drafts.{draft_well_formed}
 use Rattle.word.proofs.Judging.{same_game, refused_by, no_room, solved_by, room}

@@ -8,7 +8,7 @@ use Rattle.draft.specs.Automaton.{Automaton, state_count, node_count, is_complet
 use Rattle.draft.specs.Calls.{turned}
 use Rattle.draft.specs.WellFormed.{WellFormed}
 use Rattle.draft.proofs.TurnLaws.{heeded}
-use Rattle.runs.proofs.Dual.{nodes_same}
+use Rattle.draft.proofs.Dual.{nodes_same}
 use Rattle.inclusion.specs.Exchange.{Exchanged}
 use Rattle.inclusion.specs.PairGame.{pair_game, pair_winner}
 use Rattle.inclusion.specs.Stratified.{is_stratified}

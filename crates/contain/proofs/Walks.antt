@@ -7,7 +7,7 @@ use Rattle.draft.specs.declared.parts.Node.{Node}
 use Rattle.draft.specs.declared.parts.Node.TheVariants.{Leaf, Either, Both}
 use Rattle.draft.specs.Automaton.{Automaton, node_count, priority_of, node_of}
 use Rattle.draft.specs.WellFormed.{WellFormed}
-use Rattle.draft.proofs.Children.{either_children, both_children}
+use Rattle.draft.proofs.Children.{fits_as}
 use Rattle.inclusion.specs.Stratified.{node_low, is_low}
 use Rattle.inclusion.proofs.Low.{is_low_by}
 use Rattle.contain.specs.Marking.{MarkedLow}
@@ -26,7 +26,7 @@ module _ (a : Automaton) (w : WellFormed a) (x : ℕ) (x< : x < node_count a) (n
 
     -- both children stand before the node
     pub parts_before : (l < x) × (r < x)
-    parts_before = elim e [ inl h ↦ either_children a x l r w (sym is ∙ h) | inr h ↦ both_children a x l r w (sym is ∙ h) ]
+    parts_before = elim e [ inl h ↦ fits_as a w x x< (Either l r) (sym is ∙ h) | inr h ↦ fits_as a w x x< (Both l r) (sym is ∙ h) ]
 
 pub mark_low : (a : Automaton) (b x : ℕ) (marks : List Bool) (mark : Bool) → is_low a b x ≡ true → MarkedLow a b marks → MarkedLow a b (set marks x mark)
 mark_low a b x marks mark here before y e =

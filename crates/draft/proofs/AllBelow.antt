@@ -1,5 +1,5 @@
--- Tests of all numbers below a bound: what a loop that stops at the first failure answers, and equal tests.
-use Rattle.std.proofs.Common.{◌≡◌, ℕ, zero, suc, ◌<◌, ◌≤◌, Bool, true, false, ◌&&◌, sym, refl, ap₂, arith}
+-- Tests of all numbers below a bound: what a loop that stops at the first failure answers.
+use Rattle.std.proofs.Common.{◌≡◌, ℕ, ◌<◌, ◌≤◌, Bool, true, false, sym, arith}
 use Rattle.parity.specs.Below.{all_below}
 use Rattle.parity.proofs.Below.{all_from, not_all}
 
@@ -8,8 +8,3 @@ one_fails n f k l e = sym (not_all n f k l e)
 
 pub none_fails : (n : ℕ) (f : ℕ → Bool) (m : ℕ) → n ≤ m → ((k : ℕ) → k < m → f k ≡ true) → true ≡ all_below n f
 none_fails n f m l h = sym (all_from n f (λ k k<. h k (omega arith)))
-
-pub all_same : (n : ℕ) (f g : ℕ → Bool) → ((k : ℕ) → f k ≡ g k) → all_below n f ≡ all_below n g
-unfolding all_below
-all_same zero f g h = refl
-all_same (suc n) f g h = ap₂ ◌&&◌ (all_same n f g h) (h n)

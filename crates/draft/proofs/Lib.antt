@@ -9,6 +9,7 @@ pub mod InPlace
 pub mod Children
 pub mod Folds
 pub mod Histories
+pub mod Dual
 pub mod TurnLaws
 pub mod Puts
 pub mod WrittenParts

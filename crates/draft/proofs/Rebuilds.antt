@@ -2,15 +2,15 @@
 use Rattle.std.proofs.Common.{◌≡◌, ℕ, suc, ◌+◌, ◌<◌, ◌≤◌, List, [], ◌∷◌, ◌++◌, map, length, get_or, set, replicate, Some, None, Ok, Option, sym, refl, ap, ◌∙◌, subst, arith}
 use Rattle.std.proofs.lemmas.List.{append-nil, append_assoc, length-append, length_push, length-map, get_or_at, set_at}
 use Rattle.draft.specs.declared.parts.Node.{Node}
-use Rattle.draft.specs.declared.parts.Node.TheVariants.{Leaf, Either, Both}
+use Rattle.draft.specs.declared.parts.Node.TheVariants.{Leaf}
 use Rattle.draft.specs.declared.parts.State.{State}
 use Rattle.draft.specs.declared.records.Call.{Call}
 use Rattle.draft.specs.declared.records.Call.TheVariants.{Rule}
-use Rattle.draft.specs.Automaton.{Automaton, empty, blank, state_count, node_count, node_of}
+use Rattle.draft.specs.Automaton.{Automaton, empty, blank, state_count, node_of}
 use Rattle.draft.specs.Calls.{fresh, ruled}
 use Rattle.draft.specs.WellFormed.{WellFormed, Fits}
 use Rattle.draft.specs.Written.{state_call, node_call, rule_calls, all_rule_calls, calls_of}
-use Rattle.draft.proofs.Children.{either_children, both_children, leaf_state}
+use Rattle.draft.proofs.Children.{node_fits}
 use Rattle.draft.proofs.Heeds.{heeds_state, heeds_node, heeds_rule}
 use Rattle.draft.proofs.Runs.{Heeds, Runs, runs_append}
 
@@ -96,11 +96,6 @@ rules_run n ns (s ∷ ss) us q e full known =
     (subst (λ (l : List State). Runs (of n l ns) (all_rule_calls (q + 1) ss) (of n ((us ++ s ∷ []) ++ ss) ns)) (append_assoc us (s ∷ []) (map bare ss))
     (rules_run n ns ss (us ++ s ∷ []) (q + 1) (length_push us s ∙ ap (λ (k : ℕ). k + 1) e) (λ k k<. full (suc k) (omega arith)) (λ k letter x h. known (suc k) letter x h))))
 
-node_fits : (b : Automaton) (x : ℕ) → WellFormed b → x < node_count b → (t : Node) → node_of b x ≡ t → Fits (state_count b) x t
-node_fits b x w x< (Leaf q) e = leaf_state b x q w x< e
-node_fits b x w x< (Either l r) e = either_children b x l r w e
-node_fits b x w x< (Both l r) e = both_children b x l r w e
-
 pub rebuilds : (b : Automaton) → WellFormed b → Runs (empty b.letters) (calls_of b) b
 rebuilds b w =
     runs_append (map state_call b.states) (map node_call b.nodes ++ all_rule_calls 0 b.states) (empty b.letters) (of b.letters (map bare b.states) []) b
@@ -108,5 +103,5 @@ rebuilds b w =
     (runs_append (map node_call b.nodes) (all_rule_calls 0 b.states) (of b.letters (map bare b.states) []) (of b.letters (map bare b.states) b.nodes) b
     (nodes_run b.letters (map bare b.states) b.nodes [] (let h = w.few_nodes in omega arith)
     (λ k k<. (let same : state_count b ≡ length (map bare b.states) = sym (length-map b.states bare) in let place : k ≡ 0 + k = omega arith in
-    subst (λ (m : ℕ). Fits m (0 + k) (node_of b k)) same (subst (λ (x : ℕ). Fits (state_count b) x (node_of b k)) place (node_fits b k w k< (node_of b k) refl)))))
+    subst (λ (m : ℕ). Fits m (0 + k) (node_of b k)) same (subst (λ (x : ℕ). Fits (state_count b) x (node_of b k)) place (node_fits b w k k<)))))
     (rules_run b.letters b.nodes b.states [] 0 refl w.full (λ k letter x h. (w.lettered k letter x h, w.named k letter x h))))

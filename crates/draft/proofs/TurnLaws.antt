@@ -1,19 +1,15 @@
 -- The laws of turning an automaton over.
-use Rattle.std.proofs.Common.{◌≡◌, ℕ, List, [], ◌∷◌, map, get_or, is_some, None, Ok, Err, Result, sym, refl, ap, ◌∙◌, ap₂, inl, inr, arith}
+use Rattle.std.proofs.Common.{◌≡◌, ℕ, List, [], ◌∷◌, map, Ok, Err, Result, sym, refl, ap, ◌∙◌, ap₂, inl, inr, arith}
 use Rattle.std.proofs.lemmas.Bool.{cases_Bool, cond_both, cond-true, cond-false}
-use Rattle.std.proofs.lemmas.List.{length-map}
 use Rattle.refusal.specs.declared.Refusal.{Refusal}
 use Rattle.refusal.specs.declared.Refusal.TheVariants.{Top}
-use Rattle.parity.specs.Below.{all_below}
 use Rattle.draft.specs.declared.parts.Node.{Node}
 use Rattle.draft.specs.declared.parts.Node.TheVariants.{Leaf, Either, Both}
 use Rattle.draft.specs.declared.parts.State.{State}
-use Rattle.draft.specs.Automaton.{Automaton, blank, state_count, rule_of, is_ruled, is_complete}
+use Rattle.draft.specs.Automaton.{Automaton, is_complete}
 use Rattle.draft.specs.Calls.{Outcome, dual, raised, turned, can_turn, turn_over}
 use Rattle.draft.specs.TurnLaws.{raised_by, all_raised_by, TurnsCancel, TurnKeepsComplete}
-use Rattle.draft.proofs.AllBelow.{all_same}
-use Rattle.draft.proofs.NoRule.{rule_past_state}
-use Rattle.draft.proofs.Places.{at_map}
+use Rattle.draft.proofs.Dual.{complete_same}
 
 dual_dual : (n : Node) → dual (dual n) ≡ n
 dual_dual (Leaf q) = refl
@@ -48,16 +44,6 @@ heeded a b e =
 pub turns_cancel : TurnsCancel
 turns_cancel a b c e e' = heeded b c e' ∙ (ap turned (heeded a b e) ∙ turned_twice a)
 
-same_rule : (a : Automaton) (q letter : ℕ) → rule_of (turned a) q letter ≡ rule_of a q letter
-same_rule a q letter =
-    at_map blank (λ (s : State). get_or s.rules letter None ≡ rule_of a q letter) raised a.states q (λ _. refl) (rule_past_state a q letter)
-
-same_complete : (a : Automaton) → is_complete (turned a) ≡ is_complete a
-unfolding is_complete is_ruled
-same_complete a =
-    ap (λ (n : ℕ). all_below n (is_ruled (turned a))) (length-map a.states raised)
-    ∙ all_same (state_count a) (is_ruled (turned a)) (is_ruled a) (λ q. all_same a.letters _ _ (λ letter. ap is_some (same_rule a q letter)))
-
 pub turn_keeps_complete : TurnKeepsComplete
 turn_keeps_complete a =
-    cond_both (can_turn a.states) (Ok tt, turned a) (Err Top, a) (λ (o : Outcome (Unit {0})). is_complete o.1 ≡ is_complete a) (λ _. same_complete a) (λ _. refl)
+    cond_both (can_turn a.states) (Ok tt, turned a) (Err Top, a) (λ (o : Outcome (Unit {0})). is_complete o.1 ≡ is_complete a) (λ _. complete_same a) (λ _. refl)

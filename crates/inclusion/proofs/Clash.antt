@@ -2,7 +2,7 @@
 -- winning plans would have priorities that fall for ever.
 use Rattle.std.proofs.Common.{◌≡◌, ℕ, zero, suc, ◌<◌, ◌≤◌, subst, arith}
 use Rattle.parity.specs.Determinacy.{reported}
-use Rattle.parity.specs.Game.{Game}
+use Rattle.parity.specs.Game.{Game, Sound}
 use Rattle.parity.specs.Grading.{winner}
 use Rattle.parity.specs.Move.{move}
 use Rattle.parity.specs.Play.{Winning}
@@ -18,14 +18,33 @@ use Rattle.inclusion.specs.PairGame.{pair_priority}
 use Rattle.inclusion.specs.Stratified.{NamedBelow}
 use Rattle.inclusion.proofs.Descent.{pair_low, no_descent}
 use Rattle.inclusion.proofs.Meets.{Meet, meet}
-use Rattle.inclusion.proofs.PairArena.{ThreeGames}
+use Rattle.inclusion.proofs.PairArena.{Side, ThreeGames}
+use Rattle.inclusion.proofs.Ways.{Way}
 
 -- what the winner's plan makes of a play through given vertices
-passed : (G : Game) (x : Player) (head p : ℕ → ℕ) (priorities : (i : ℕ) → G.priority (head i) ≡ p i) (low : (i : ℕ) → p i < 9999)
-    (walks : (i : ℕ) → Walk G (move G) x (head i) (head (suc i))) → Winning G x (reported G) (head 0) → LeastFavours G x p
-passed G x head p priorities low walks w =
+passed : (G : Game) → Sound G → (x : Player) (head p : ℕ → ℕ) → ((i : ℕ) → G.priority (head i) ≡ p i) → ((i : ℕ) → p i < 9999) →
+    ((i : ℕ) → Walk G (move G) x (head i) (head (suc i))) → head 0 < G.count → winner G (head 0) ≡ x → LeastFavours G x p
+passed G sound x head p priorities low walks inside won =
+    let w = subst (λ y. Winning G y (reported G) (head 0)) won (reported_wins G sound (head 0) inside) in
     won_least G (move G) x head p priorities low walks x
     (w.wins (passage G (move G) x head p priorities low walks) (passage_plays G (move G) x head p priorities low walks) (passage_follows G (move G) x head p priorities low walks))
+
+-- A word game on its own: the states q i at step i, and the ways between them. The argument is the same for both automata.
+module _ {c : Automaton} {x : Player} {word : ℕ → ℕ} (S : Side c x word) (q : ℕ → ℕ) (q< : (i : ℕ) → q i < state_count c)
+    (ways : (i : ℕ) → Way S i (rule_node c (q i) (word i)) (q (suc i))) where
+  low : (i : ℕ) → priority_of c (q i) ≤ 1000
+  low i = S.arena.formed.low (q i) (q< i)
+
+  walks : (i : ℕ) → Walk S.G (move S.G) x (S.st i (q i)) (S.st (suc i) (q (suc i)))
+  walks i =
+      first_step S.G (move S.G) x _ _ _
+      (forced S.G (move S.G) x _ _ (move_legal S.G S.arena.sound _ (S.arena.state_in i (q i) (q< i))) (S.arena.state_degree i (q i) (q< i)) (S.arena.state_next i (q i) (q< i)))
+      (S.arena.node_high i _ (S.arena.formed.ruled (q i) (word i) (q< i) (S.arena.reads i))) (ways i).walk
+
+  least : winner S.G (S.st 0 (q 0)) ≡ x → LeastFavours S.G x (λ i. priority_of c (q i))
+  least =
+      passed S.G S.arena.sound x (λ i. S.st i (q i)) (λ i. priority_of c (q i)) (λ i. S.arena.state_priority i (q i) (q< i)) (λ i. omega (arith, low i)) walks
+      (S.arena.state_in 0 (q 0) (q< 0))
 
 module _ (a b : Automaton) (word : ℕ → ℕ) (T : ThreeGames a b word)
     (falls-a : (p i q : ℕ) → p < state_count a → NamedBelow a q (rule_node a p (word i)) → priority_of a q ≤ priority_of a p)
@@ -35,10 +54,10 @@ module _ (a b : Automaton) (word : ℕ → ℕ) (T : ThreeGames a b word)
   Here = (p : ℕ) × (q : ℕ) × (p < state_count a) × (q < state_count b)
 
   in_a : (i : ℕ) (h : Here) → rule_node a h.0 (word i) < node_count a
-  in_a i h = T.first.formed.ruled h.0 (word i) h.2 (T.first.reads i)
+  in_a i h = T.first.arena.formed.ruled h.0 (word i) h.2 (T.first.arena.reads i)
 
   in_b : (i : ℕ) (h : Here) → rule_node b h.1 (word i) < node_count b
-  in_b i h = T.second.formed.ruled h.1 (word i) h.3 (T.second.reads i)
+  in_b i h = T.second.arena.formed.ruled h.1 (word i) h.3 (T.second.arena.reads i)
 
   link : (i : ℕ) (h : Here) → Meet a b word T i (rule_node a h.0 (word i)) (rule_node b h.1 (word i))
   link i h = meet a b word T i _ _ (in_a i h) (in_b i h)
@@ -46,86 +65,44 @@ module _ (a b : Automaton) (word : ℕ → ℕ) (T : ThreeGames a b word)
   -- the two states at step i
   here : ℕ → Here
   here zero = (p₀, q₀, p₀<, q₀<)
-  here (suc i) = (let w = link i (here i) in (w.p, w.q, w.p<, w.q<))
+  here (suc i) = (let w = link i (here i) in (w.p, w.q, w.first.inside, w.second.inside))
 
-  p : ℕ → ℕ
+  first_way : (i : ℕ) → Way T.first i (rule_node a (here i).0 (word i)) (here (suc i)).0
+  unfolding here
+  first_way i = (link i (here i)).first
+
+  second_way : (i : ℕ) → Way T.second i (rule_node b (here i).1 (word i)) (here (suc i)).1
+  unfolding here
+  second_way i = (link i (here i)).second
+
+  abbrev p : ℕ → ℕ
   p i = priority_of a (here i).0
 
-  q : ℕ → ℕ
+  abbrev q : ℕ → ℕ
   q i = priority_of b (here i).1
 
-  p_low : (i : ℕ) → p i ≤ 1000
-  unfolding p
-  p_low i = T.first.formed.low _ (here i).2
+  -- the play of the pair game
+  abbrev head : ℕ → ℕ
+  head i = T.sp (here i).0 (here i).1
 
-  q_low : (i : ℕ) → q i ≤ 1000
-  unfolding q
-  q_low i = T.second.formed.low _ (here i).3
-
-  p_falls : (i : ℕ) → p (suc i) ≤ p i
-  unfolding p here
-  p_falls i = falls-a (here i).0 i _ (here i).2 (link i (here i)).named_p
-
-  q_falls : (i : ℕ) → q (suc i) ≤ q i
-  unfolding q here
-  q_falls i = falls-b (here i).1 i _ (here i).3 (link i (here i)).named_q
-
-  -- the three plays
-  abbrev head_c : ℕ → ℕ
-  head_c i = T.sp (here i).0 (here i).1
-
-  walks_c : (i : ℕ) → Walk T.C (move T.C) Zero (head_c i) (head_c (suc i))
+  pair_walks : (i : ℕ) → Walk T.C (move T.C) Zero (head i) (head (suc i))
   unfolding here
-  walks_c i =
+  pair_walks i =
       let h = here i in
       first_step T.C (move T.C) Zero _ _ _
       (free T.C (move T.C) Zero _ _ (word i) (T.pairs.state_degree h.0 h.1 i h.2 h.3) (T.pairs.state_next h.0 h.1 i h.2 h.3) (not_zero (T.pairs.state_owner h.0 h.1 h.2 h.3)))
-      (T.pairs.node_high _ _ (in_a i h) (in_b i h)) (link i h).walk_c
+      (T.pairs.node_high _ _ (in_a i h) (in_b i h)) (link i h).walk
 
-  abbrev head_a : ℕ → ℕ
-  head_a i = T.st_a i (here i).0
+  pair_least : winner T.C (head 0) ≡ Zero → LeastFavours T.C Zero (λ i. pair_priority (p i) (q i))
+  pair_least =
+      passed T.C T.pairs.sound Zero head (λ i. pair_priority (p i) (q i)) (λ i. T.pairs.state_priority _ _ (here i).2 (here i).3)
+      (λ i. omega (arith, pair_low (p i) (q i) (T.first.arena.formed.low _ (here i).2) (T.second.arena.formed.low _ (here i).3))) pair_walks
+      (T.pairs.state_in _ _ (here 0).2 (here 0).3)
 
-  walks_a : (i : ℕ) → Walk T.A (move T.A) Zero (head_a i) (head_a (suc i))
+  pub clash : winner T.C (T.sp p₀ q₀) ≡ Zero → winner T.first.G (T.first.st 0 p₀) ≡ Zero → winner T.second.G (T.second.st 0 q₀) ≡ One → ⊥
   unfolding here
-  walks_a i =
-      let h = here i in
-      first_step T.A (move T.A) Zero _ _ _
-      (forced T.A (move T.A) Zero _ _ (move_legal T.A T.first.sound _ (T.first.state_in i h.0 h.2)) (T.first.state_degree i h.0 h.2) (T.first.state_next i h.0 h.2))
-      (T.first.node_high i _ (in_a i h)) (link i h).walk_a
-
-  abbrev head_b : ℕ → ℕ
-  head_b i = T.st_b i (here i).1
-
-  walks_b : (i : ℕ) → Walk T.B (move T.B) One (head_b i) (head_b (suc i))
-  unfolding here
-  walks_b i =
-      let h = here i in
-      first_step T.B (move T.B) One _ _ _
-      (forced T.B (move T.B) One _ _ (move_legal T.B T.second.sound _ (T.second.state_in i h.1 h.3)) (T.second.state_degree i h.1 h.3) (T.second.state_next i h.1 h.3))
-      (T.second.node_high i _ (in_b i h)) (link i h).walk_b
-
-  module _ (won-C : winner T.C (T.sp p₀ q₀) ≡ Zero) (won-A : winner T.A (T.st_a 0 p₀) ≡ Zero) (won-B : winner T.B (T.st_b 0 q₀) ≡ One) where
-    least_c : LeastFavours T.C Zero (λ i. pair_priority (p i) (q i))
-    unfolding p q here
-    least_c =
-        passed T.C Zero head_c (λ i. pair_priority (p i) (q i)) (λ i. T.pairs.state_priority _ _ (here i).2 (here i).3) (λ i. omega (arith, pair_low (p i) (q i) (p_low i) (q_low i))) walks_c
-        (subst (λ x. Winning T.C x (reported T.C) (T.sp p₀ q₀)) won-C (reported_wins T.C T.pairs.sound _ (T.pairs.state_in p₀ q₀ p₀< q₀<)))
-
-    least_a : LeastFavours T.A Zero p
-    unfolding p here
-    least_a =
-        passed T.A Zero head_a p (λ i. T.first.state_priority i _ (here i).2) (λ i. omega (arith, p_low i)) walks_a
-        (subst (λ x. Winning T.A x (reported T.A) (T.st_a 0 p₀)) won-A (reported_wins T.A T.first.sound _ (T.first.state_in 0 p₀ p₀<)))
-
-    least_b : LeastFavours T.B One q
-    unfolding q here
-    least_b =
-        passed T.B One head_b q (λ i. T.second.state_priority i _ (here i).3) (λ i. omega (arith, q_low i)) walks_b
-        (subst (λ x. Winning T.B x (reported T.B) (T.st_b 0 q₀)) won-B (reported_wins T.B T.second.sound _ (T.second.state_in 0 q₀ q₀<)))
-
-    pub clash : ⊥
-    clash =
-        no_descent p q p_falls q_falls
-        (λ i o. (let r = least_a i (odd_favours T.A T.first.even_zero (p i) o) in (r.0, r.1)))
-        (λ i z. (let r = least_b i (even_favours T.B T.second.even_zero (q i) z) in (r.0, r.1)))
-        (λ i o. (let r = least_c i (odd_favours T.C T.pairs.even_zero _ o) in (r.0, r.1)))
+  clash won won-a won-b =
+      no_descent p q (λ i. falls-a (here i).0 i _ (here i).2 (first_way i).named) (λ i. falls-b (here i).1 i _ (here i).3 (second_way i).named)
+      (λ i o. (let r = least T.first (λ i. (here i).0) (λ i. (here i).2) first_way won-a i (odd_favours T.first.G T.first.arena.even_zero (p i) o) in (r.0, r.1)))
+      (λ i z. (let r = least T.second (λ i. (here i).1) (λ i. (here i).3) second_way won-b i (even_favours T.second.G T.second.arena.even_zero (q i) z) in (r.0, r.1)))
+      (λ i o. (let r = pair_least won i (odd_favours T.C T.pairs.even_zero _ o) in (r.0, r.1)))

@@ -39,17 +39,11 @@ module _ (a b : Automaton) (wa : WellFormed a) (wb : WellFormed b) (k : Comparab
   pub three_games : ThreeGames a b (letter prefix period)
   three_games = record {
     C = pair_moves a b;
-    A = word_moves a prefix period;
-    B = word_moves b prefix period;
     sp = states_at a b;
     np = nodes_at a b;
-    st_a = st a fa prefix period r;
-    nd_a = nd a fa prefix period r;
-    st_b = st b fb prefix period r';
-    nd_b = nd b fb prefix period r';
     pairs = pair_arena a b fa fb k.same_letters wa.some_letters (letter prefix period) (letter_in prefix period a.letters r);
-    first = word_arena a fa prefix period r;
-    second = word_arena b fb prefix period r';
+    first = record { G = word_moves a prefix period; st = st a fa prefix period r; nd = nd a fa prefix period r; arena = word_arena a fa prefix period r };
+    second = record { G = word_moves b prefix period; st = st b fb prefix period r'; nd = nd b fb prefix period r'; arena = word_arena b fb prefix period r' };
   }
 
   module _ (p q : ℕ) (p< : p < state_count a) (q< : q < state_count b) (won : pair_winner a b p q ≡ Zero) (acc : Accepts a (letter prefix period) p) where

@@ -21,6 +21,11 @@ falls : (f : ℕ → ℕ) → ((i : ℕ) → f (suc i) ≤ f i) → (i j : ℕ) 
 falls f h i zero l = (let e : i ≡ 0 = omega arith in rw e (omega arith))
 falls f h i (suc j) l = elim (cases_lt i (suc j)) [ inl l' ↦ omega (arith, falls f h i j (omega arith), h j) | inr l' ↦ (let e : i ≡ suc j = omega arith in rw e (omega arith)) ]
 
+-- of two falling lists, where the one is smaller the sum is
+sum_falls : (f g : ℕ → ℕ) → ((i : ℕ) → f (suc i) ≤ f i) → ((i : ℕ) → g (suc i) ≤ g i) → (i j : ℕ) → f j < f i → f j + g j < f i + g i
+sum_falls f g f-falls g-falls i j l =
+    elim (cases_lt i j) [ inl k ↦ omega (arith, falls g g-falls i j (omega arith)) | inr k ↦ absurd (omega (arith, falls f f-falls j i k)) ]
+
 -- an odd first priority, an even second one and an odd pair are each followed by a smaller one: then the sum falls for ever
 module _ (p q : ℕ → ℕ) (p_falls : (i : ℕ) → p (suc i) ≤ p i) (q_falls : (i : ℕ) → q (suc i) ≤ q i)
     (odd-p : (i : ℕ) → p i % 2 ≡ 1 → (j : ℕ) × (p j < p i)) (even-q : (i : ℕ) → q i % 2 ≡ 0 → (j : ℕ) × (q j < q i))
@@ -29,14 +34,10 @@ module _ (p q : ℕ → ℕ) (p_falls : (i : ℕ) → p (suc i) ≤ p i) (q_fall
   Smaller i = (j : ℕ) × (p j + q j < p i + q i)
 
   by_p : (i : ℕ) → p i % 2 ≡ 1 → Smaller i
-  by_p i o =
-      let r = odd-p i o in
-      elim (cases_lt i r.0) [ inl l ↦ (r.0, omega (arith, r.1, falls q q_falls i r.0 (omega arith))) | inr l ↦ absurd (omega (arith, r.1, falls p p_falls r.0 i l)) ]
+  by_p i o = let r = odd-p i o in (r.0, sum_falls p q p_falls q_falls i r.0 r.1)
 
   by_q : (i : ℕ) → q i % 2 ≡ 0 → Smaller i
-  by_q i z =
-      let r = even-q i z in
-      elim (cases_lt i r.0) [ inl l ↦ (r.0, omega (arith, r.1, falls p p_falls i r.0 (omega arith))) | inr l ↦ absurd (omega (arith, r.1, falls q q_falls r.0 i l)) ]
+  by_q i z = let r = even-q i z in (r.0, omega (arith, sum_falls q p q_falls p_falls i r.0 r.1))
 
   by_pair : (i : ℕ) → p i % 2 ≡ 0 → q i % 2 ≡ 1 → Smaller i
   by_pair i z o = elim (cases_lt (p r.0 + q r.0) (p i + q i)) [ inl l ↦ (r.0, l) | inr l ↦ absurd (not_less l) ]

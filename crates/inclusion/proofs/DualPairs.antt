@@ -1,33 +1,23 @@
 -- Two nodes, dual and exchanged: the same owner and the same moves, in another order where both nodes move.
-use Rattle.std.proofs.Common.{◌≡◌, ℕ, zero, suc, ◌+◌, ◌%◌, ◌<◌, cond, ◌&&◌, ◌||◌, eqb, refl, inl, inr, arith}
-use Rattle.std.proofs.lemmas.Bool.{eq-eqb, ne_eqb, cond-true, cond-false, or_left, or_right, or_from}
+use Rattle.std.proofs.Common.{◌≡◌, ℕ, zero, suc, ◌+◌, ◌%◌, ◌<◌, Bool, true, false, cond, ◌&&◌, ◌||◌, eqb, sym, refl, ap, ◌∙◌, ap₂, inl, inr, arith}
+use Rattle.std.proofs.lemmas.Bool.{eq-eqb, ne_eqb}
 use Rattle.parity.proofs.Parities.{parity}
 use Rattle.draft.specs.declared.parts.Node.{Node}
 use Rattle.draft.specs.declared.parts.Node.TheVariants.{Leaf, Either, Both}
 use Rattle.draft.specs.Calls.{dual}
 use Rattle.inclusion.specs.PairGame.{pair_owner, first_moves, second_moves, pair_degree, pair_priority}
+use Rattle.inclusion.proofs.PairGames.{degree_by}
 
-pub dual_owner : (n o : Node) → pair_owner (dual o) (dual n) ≡ pair_owner n o
-dual_owner (Leaf p) (Leaf q) = refl
-dual_owner (Leaf p) (Either c d) = refl
-dual_owner (Leaf p) (Both c d) = refl
-dual_owner (Either l r) (Leaf q) = refl
-dual_owner (Either l r) (Either c d) = refl
-dual_owner (Either l r) (Both c d) = refl
-dual_owner (Both l r) (Leaf q) = refl
-dual_owner (Both l r) (Either c d) = refl
-dual_owner (Both l r) (Both c d) = refl
-
-pub dual_degree : (n o : Node) → pair_degree (dual o) (dual n) ≡ pair_degree n o
-dual_degree (Leaf p) (Leaf q) = refl
-dual_degree (Leaf p) (Either c d) = refl
-dual_degree (Leaf p) (Both c d) = refl
-dual_degree (Either l r) (Leaf q) = refl
-dual_degree (Either l r) (Either c d) = refl
-dual_degree (Either l r) (Both c d) = refl
-dual_degree (Both l r) (Leaf q) = refl
-dual_degree (Both l r) (Either c d) = refl
-dual_degree (Both l r) (Both c d) = refl
+pub dual_same : (n o : Node) → (pair_owner (dual o) (dual n) ≡ pair_owner n o) × (pair_degree (dual o) (dual n) ≡ pair_degree n o)
+dual_same (Leaf p) (Leaf q) = (refl, refl)
+dual_same (Leaf p) (Either c d) = (refl, refl)
+dual_same (Leaf p) (Both c d) = (refl, refl)
+dual_same (Either l r) (Leaf q) = (refl, refl)
+dual_same (Either l r) (Either c d) = (refl, refl)
+dual_same (Either l r) (Both c d) = (refl, refl)
+dual_same (Both l r) (Leaf q) = (refl, refl)
+dual_same (Both l r) (Either c d) = (refl, refl)
+dual_same (Both l r) (Both c d) = (refl, refl)
 
 -- of four positions, the first two and the last two exchanged
 abbrev pub across : ℕ → ℕ
@@ -48,50 +38,39 @@ across_back (suc zero) l = refl
 across_back (suc (suc zero)) l = refl
 across_back (suc (suc (suc i))) l = (let e : i ≡ 0 = omega arith in rw e refl)
 
--- where the move at a position of the two nodes stands at the dual ones
+-- where the move at a position stands at the dual nodes, by which of the nodes move
+abbrev position_by : Bool → Bool → ℕ → ℕ
+position_by f s i = cond (f && s) (across i) i
+
+-- it is one of the positions, and stands there back again
+position_within : (f s : Bool) (i : ℕ) → i < degree_by f s → (position_by f s i < degree_by f s) × (position_by f s (position_by f s i) ≡ i)
+position_within true true i l = (across_in i, across_back i l)
+position_within true false i l = (l, refl)
+position_within false s i l = (l, refl)
+
 abbrev pub position : Node → Node → ℕ → ℕ
-position n o i = cond (first_moves n o && second_moves n o) (across i) i
+position n o = position_by (first_moves n o) (second_moves n o)
 
-pub position_in : (n o : Node) (i : ℕ) → i < pair_degree n o → position n o i < pair_degree n o
-position_in (Leaf p) (Leaf q) i l = l
-position_in (Leaf p) (Either c d) i l = l
-position_in (Leaf p) (Both c d) i l = l
-position_in (Either l r) (Leaf q) i h = h
-position_in (Either l r) (Either c d) i h = h
-position_in (Either l r) (Both c d) i h = across_in i
-position_in (Both l r) (Leaf q) i h = h
-position_in (Both l r) (Either c d) i h = across_in i
-position_in (Both l r) (Both c d) i h = h
+pub position_in : (n o : Node) (i : ℕ) → i < pair_degree n o → (position n o i < pair_degree n o) × (position n o (position n o i) ≡ i)
+position_in n o = position_within (first_moves n o) (second_moves n o)
 
-pub position_back : (n o : Node) (i : ℕ) → i < pair_degree n o → position n o (position n o i) ≡ i
-position_back (Leaf p) (Leaf q) i l = refl
-position_back (Leaf p) (Either c d) i l = refl
-position_back (Leaf p) (Both c d) i l = refl
-position_back (Either l r) (Leaf q) i h = refl
-position_back (Either l r) (Either c d) i h = refl
-position_back (Either l r) (Both c d) i h = across_back i h
-position_back (Both l r) (Leaf q) i h = refl
-position_back (Both l r) (Either c d) i h = across_back i h
-position_back (Both l r) (Both c d) i h = refl
+-- one more is odd where a number is even, and even where it is odd
+next_parity : (n : ℕ) → (eqb ((n + 1) % 2) 1 ≡ eqb (n % 2) 0) × (eqb ((n + 1) % 2) 0 ≡ eqb (n % 2) 1)
+next_parity n =
+    elim (parity n) [
+      | inl z ↦ (eq-eqb _ _ (omega arith) ∙ sym (eq-eqb _ _ z), ne_eqb _ _ (λ h. omega arith) ∙ sym (ne_eqb _ _ (λ h. omega arith)))
+      | inr o ↦ (ne_eqb _ _ (λ h. omega arith) ∙ sym (ne_eqb _ _ (λ h. omega arith)), eq-eqb _ _ (omega arith) ∙ sym (eq-eqb _ _ o))
+    ]
+
+or_exchanged : (t u : Bool) → (t || u) ≡ (u || t)
+or_exchanged true true = refl
+or_exchanged true false = refl
+or_exchanged false true = refl
+or_exchanged false false = refl
 
 -- both priorities one larger, and exchanged: the pair's is 4 larger
 pub priority_four : (p q : ℕ) → pair_priority (q + 1) (p + 1) ≡ pair_priority p q + 4
-priority_four p q = elim (parity p) [ inr o ↦ odd o | inl z ↦ elim (parity q) [ inl y ↦ even y | inr o ↦ neither z o ] ]
-  where
-    odd : p % 2 ≡ 1 → pair_priority (q + 1) (p + 1) ≡ pair_priority p q + 4
-    odd o =
-        let e : ◌≡◌ {A = ℕ} (cond (eqb ((q + 1) % 2) 1 || eqb ((p + 1) % 2) 0) 0 1) 0 = cond-true (eqb ((q + 1) % 2) 1 || eqb ((p + 1) % 2) 0) 0 1 (or_right _ _ (eq-eqb ((p + 1) % 2) 0 (omega arith))) in
-        let e' : ◌≡◌ {A = ℕ} (cond (eqb (p % 2) 1 || eqb (q % 2) 0) 0 1) 0 = cond-true (eqb (p % 2) 1 || eqb (q % 2) 0) 0 1 (or_left _ _ (eq-eqb (p % 2) 1 o)) in
-        omega arith
-
-    even : q % 2 ≡ 0 → pair_priority (q + 1) (p + 1) ≡ pair_priority p q + 4
-    even y =
-        let e : ◌≡◌ {A = ℕ} (cond (eqb ((q + 1) % 2) 1 || eqb ((p + 1) % 2) 0) 0 1) 0 = cond-true (eqb ((q + 1) % 2) 1 || eqb ((p + 1) % 2) 0) 0 1 (or_left _ _ (eq-eqb ((q + 1) % 2) 1 (omega arith))) in
-        let e' : ◌≡◌ {A = ℕ} (cond (eqb (p % 2) 1 || eqb (q % 2) 0) 0 1) 0 = cond-true (eqb (p % 2) 1 || eqb (q % 2) 0) 0 1 (or_right _ _ (eq-eqb (q % 2) 0 y)) in
-        omega arith
-
-    neither : p % 2 ≡ 0 → q % 2 ≡ 1 → pair_priority (q + 1) (p + 1) ≡ pair_priority p q + 4
-    neither z o =
-        let e : ◌≡◌ {A = ℕ} (cond (eqb ((q + 1) % 2) 1 || eqb ((p + 1) % 2) 0) 0 1) 1 = cond-false (eqb ((q + 1) % 2) 1 || eqb ((p + 1) % 2) 0) 0 1 (or_from _ _ (ne_eqb ((q + 1) % 2) 1 (λ h. omega arith)) (ne_eqb ((p + 1) % 2) 0 (λ h. omega arith))) in
-        let e' : ◌≡◌ {A = ℕ} (cond (eqb (p % 2) 1 || eqb (q % 2) 0) 0 1) 1 = cond-false (eqb (p % 2) 1 || eqb (q % 2) 0) 0 1 (or_from _ _ (ne_eqb (p % 2) 1 (λ h. omega arith)) (ne_eqb (q % 2) 0 (λ h. omega arith))) in
-        omega arith
+priority_four p q =
+    let same : ◌≡◌ {A = ℕ} (cond (eqb ((q + 1) % 2) 1 || eqb ((p + 1) % 2) 0) 0 1) (cond (eqb (p % 2) 1 || eqb (q % 2) 0) 0 1) =
+    ap (λ t. cond t 0 1) (ap₂ ◌||◌ (next_parity q).0 (next_parity p).1 ∙ or_exchanged (eqb (q % 2) 0) (eqb (p % 2) 1)) in
+    omega arith

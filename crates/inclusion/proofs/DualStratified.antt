@@ -2,19 +2,15 @@
 use Rattle.std.proofs.Common.{◌≡◌, ℕ, zero, suc, ◌+◌, ◌<◌, Bool, ◌&&◌, leb, Some, None, Option, sym, refl, ap, ◌∙◌, inl, inr, arith}
 use Rattle.std.proofs.lemmas.Bool.{cases_lt, le-leb, lt-leb}
 use Rattle.parity.specs.Below.{all_below}
+use Rattle.parity.proofs.Below.{all_cong}
 use Rattle.draft.specs.declared.parts.Node.{Node}
 use Rattle.draft.specs.declared.parts.Node.TheVariants.{Leaf, Either, Both}
 use Rattle.draft.specs.Automaton.{Automaton, state_count, node_count, priority_of, rule_of, node_of}
 use Rattle.draft.specs.Calls.{dual, turned}
 use Rattle.draft.specs.WellFormed.{WellFormed, Fits}
-use Rattle.runs.proofs.Dual.{states_same, priority_raised, rule_same, node_dual}
-use Rattle.runs.proofs.Formed.{node_fits}
+use Rattle.draft.proofs.Children.{node_fits}
+use Rattle.draft.proofs.Dual.{states_same, priority_raised, rule_same, node_dual}
 use Rattle.inclusion.specs.Stratified.{node_low, low_to, rule_low, state_low, is_stratified}
-
-all_same : (n : ℕ) (f g : ℕ → Bool) → ((k : ℕ) → k < n → f k ≡ g k) → all_below n f ≡ all_below n g
-unfolding all_below
-all_same zero f g h = refl
-all_same (suc n) f g h = let e = all_same n f g (λ k l. h k (omega arith)) in let e' = h n (omega arith) in λ i. e i && e' i
 
 leb_next : (m n : ℕ) → leb (m + 1) (n + 1) ≡ leb m n
 leb_next m n =
@@ -43,10 +39,10 @@ module _ (a : Automaton) (w : WellFormed a) (b : ℕ) where
 state_same : (a : Automaton) → WellFormed a → (p : ℕ) → p < state_count a → state_low (turned a) p ≡ state_low a p
 unfolding state_low
 state_same a w p p< =
-    all_same a.letters _ _ (λ letter _.
+    all_cong a.letters _ _ (λ letter _.
     (λ i. rule_low (turned a) (priority_raised a p p< i) (rule_same a p letter i))
     ∙ rule_raised a w (priority_of a p) (rule_of a p letter) (λ x e. w.named p letter x e))
 
 pub stratified_same : (a : Automaton) → WellFormed a → is_stratified (turned a) ≡ is_stratified a
 unfolding is_stratified
-stratified_same a w = ap (λ n. all_below n (state_low (turned a))) (states_same a) ∙ all_same (state_count a) _ _ (λ p p<. state_same a w p p<)
+stratified_same a w = ap (λ n. all_below n (state_low (turned a))) (states_same a) ∙ all_cong (state_count a) _ _ (λ p p<. state_same a w p p<)

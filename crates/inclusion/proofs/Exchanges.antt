@@ -12,7 +12,8 @@ use Rattle.draft.specs.Calls.{dual, turned}
 use Rattle.draft.specs.WellFormed.{WellFormed, Fits}
 use Rattle.runs.specs.Run.{rule_node}
 use Rattle.runs.specs.WordGame.{side}
-use Rattle.runs.proofs.Dual.{states_same, nodes_same, priority_raised, rule_node_same, node_dual, complete_same, turned_formed}
+use Rattle.draft.proofs.Dual.{states_same, nodes_same, priority_raised, node_dual, complete_same}
+use Rattle.runs.proofs.Dual.{rule_node_same, turned_formed}
 use Rattle.runs.proofs.Formed.{Formed, formed}
 use Rattle.runs.proofs.Insides.{inside_winner}
 use Rattle.runs.proofs.WordGames.{side_below}
@@ -21,7 +22,7 @@ use Rattle.inclusion.specs.declared.place.PairPlace.TheVariants.{AtStates, AtNod
 use Rattle.inclusion.specs.Exchange.{Exchange}
 use Rattle.inclusion.specs.PairGame.{pair_owner, pair_degree, pair_priority, states_at, nodes_at, pair_at, nodes_successor, place_owner, place_priority, place_degree, place_successor, pair_moves, pair_winner}
 use Rattle.inclusion.proofs.Descent.{pair_low}
-use Rattle.inclusion.proofs.DualPairs.{dual_owner, dual_degree, position, position_in, position_back, priority_four}
+use Rattle.inclusion.proofs.DualPairs.{dual_same, position, position_in, priority_four}
 use Rattle.inclusion.proofs.DualStratified.{stratified_same}
 use Rattle.inclusion.proofs.PairGames.{pair_known, states_place, nodes_place, states_in, nodes_in, pair_sound}
 
@@ -118,12 +119,12 @@ module _ (a b : Automaton) (wa : WellFormed a) (wb : WellFormed b) (ca : is_comp
 
   nodes_stand : (x y : ℕ) → x < node_count a → y < node_count b → Stands (AtNodes y x) (AtNodes x y)
   nodes_stand x y x< y< = record {
-    own = ap₂ pair_owner (node_dual b y) (node_dual a x) ∙ dual_owner (node_of a x) (node_of b y);
-    degree = ap₂ pair_degree (node_dual b y) (node_dual a x) ∙ dual_degree (node_of a x) (node_of b y);
-    within = λ i l. position_in (node_of a x) (node_of b y) i l;
+    own = ap₂ pair_owner (node_dual b y) (node_dual a x) ∙ (dual_same (node_of a x) (node_of b y)).0;
+    degree = ap₂ pair_degree (node_dual b y) (node_dual a x) ∙ (dual_same (node_of a x) (node_of b y)).1;
+    within = λ i l. (position_in (node_of a x) (node_of b y) i l).0;
     next = λ i l. ap₂ (λ o n. f (nodes_successor (turned b) (turned a) y x o n i)) (node_dual b y) (node_dual a x)
         ∙ next_same x y x< (node_of a x) (node_of b y) (fa.named x x<) (fb.named y y<) i l;
-    back = λ i l. position_back (node_of a x) (node_of b y) i l;
+    back = λ i l. (position_in (node_of a x) (node_of b y) i l).1;
     priorities = inr (refl, refl);
   }
 

@@ -3,6 +3,7 @@ pub mod Low
 pub mod Tested
 pub mod Descent
 pub mod PairArena
+pub mod Ways
 pub mod Meets
 pub mod Clash
 pub mod PairGames

@@ -4,7 +4,7 @@ use Rattle.draft.specs.declared.parts.Node.{Node}
 use Rattle.draft.specs.declared.parts.Node.TheVariants.{Leaf, Either, Both}
 use Rattle.draft.specs.Automaton.{Automaton, state_count, node_count, node_of}
 use Rattle.draft.specs.WellFormed.{WellFormed, Fits}
-use Rattle.runs.proofs.Formed.{node_fits}
+use Rattle.draft.proofs.Children.{node_fits}
 use Rattle.inclusion.specs.Stratified.{node_low, low_to, is_low}
 
 module _ (a : Automaton) (w : WellFormed a) (b : ℕ) where

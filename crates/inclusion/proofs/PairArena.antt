@@ -57,17 +57,18 @@ pub record PairArena (C : Game) (a b : Automaton) (word : ℕ → ℕ) (sp np : 
   pub node_high : (x y : ℕ) → x < node_count a → y < node_count b → C.priority (np x y) ≡ 9999
   pub node_at : (x y : ℕ) → x < node_count a → y < node_count b → PairAt C sp np x y (node_of a x) (node_of b y)
 
--- the pair game, and the word games of both automata on one word
+-- a word game that is played beside the pair game: that of the automaton c, in which player x moves by a winning plan
+pub record Side (c : Automaton) (x : Player) (word : ℕ → ℕ) : Type 0 where
+  pub G : Game
+  pub st : ℕ → ℕ → ℕ
+  pub nd : ℕ → ℕ → ℕ
+  pub arena : WordArena G c word st nd
+
+-- the pair game, and the word games of both automata on one word; player 0 wins the first, and player 1 the second
 pub record ThreeGames (a b : Automaton) (word : ℕ → ℕ) : Type 0 where
   pub C : Game
-  pub A : Game
-  pub B : Game
   pub sp : ℕ → ℕ → ℕ
   pub np : ℕ → ℕ → ℕ
-  pub st_a : ℕ → ℕ → ℕ
-  pub nd_a : ℕ → ℕ → ℕ
-  pub st_b : ℕ → ℕ → ℕ
-  pub nd_b : ℕ → ℕ → ℕ
   pub pairs : PairArena C a b word sp np
-  pub first : WordArena A a word st_a nd_a
-  pub second : WordArena B b word st_b nd_b
+  pub first : Side a Zero word
+  pub second : Side b One word

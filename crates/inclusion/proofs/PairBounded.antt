@@ -1,25 +1,12 @@
 -- The pair game keeps the bounds of an arena.
 use Rattle.std.proofs.Common.{◌≡◌, ℕ, ◌≤◌, sym, subst, inl, inr, mul-le-mul, arith}
-use Rattle.draft.specs.declared.parts.Node.{Node}
-use Rattle.draft.specs.declared.parts.Node.TheVariants.{Leaf, Either, Both}
 use Rattle.draft.specs.Automaton.{Automaton, state_count, node_count, priority_of, node_of}
 use Rattle.runs.proofs.Formed.{formed}
 use Rattle.runs.proofs.Insides.{inside_bounds, inside_elsewhere}
 use Rattle.inclusion.specs.PairBounds.{PairBounds}
-use Rattle.inclusion.specs.PairGame.{pair_degree, place_priority, place_degree, pair_at, pair_moves, pair_game, pair_place}
+use Rattle.inclusion.specs.PairGame.{first_moves, second_moves, place_priority, place_degree, pair_at, pair_moves, pair_game, pair_place}
 use Rattle.inclusion.proofs.Descent.{pair_low}
-use Rattle.inclusion.proofs.PairGames.{pair_known, pair_sound, states_in}
-
-pair_narrow : (n o : Node) → pair_degree n o ≤ 16
-pair_narrow (Leaf p) (Leaf q) = omega arith
-pair_narrow (Leaf p) (Either c d) = omega arith
-pair_narrow (Leaf p) (Both c d) = omega arith
-pair_narrow (Either l r) (Leaf q) = omega arith
-pair_narrow (Either l r) (Either c d) = omega arith
-pair_narrow (Either l r) (Both c d) = omega arith
-pair_narrow (Both l r) (Leaf q) = omega arith
-pair_narrow (Both l r) (Either c d) = omega arith
-pair_narrow (Both l r) (Both c d) = omega arith
+use Rattle.inclusion.proofs.PairGames.{degree_within, pair_known, pair_sound, states_in}
 
 pub pair_bounded : PairBounds
 pair_bounded a b wa wb ca cb same some some' =
@@ -35,7 +22,7 @@ pair_bounded a b wa wb ca cb same some some' =
     ])
     (λ v v<. elim (pair_known a b v v<) [
       | inl (p, q, p<, q<, e) ↦ subst (λ P. place_degree a b P ≤ 16) (sym e) wa.few_letters
-      | inr (x, y, x<, y<, e) ↦ subst (λ P. place_degree a b P ≤ 16) (sym e) (pair_narrow (node_of a x) (node_of b y))
+      | inr (x, y, x<, y<, e) ↦ subst (λ P. place_degree a b P ≤ 16) (sym e) (omega (arith, (degree_within (first_moves (node_of a x) (node_of b y)) (second_moves (node_of a x) (node_of b y))).1))
     ])
 
 pub pair_elsewhere : (a b : Automaton) (v : ℕ) → (pair_game a b).count ≤ v → pair_place a b v ≡ pair_place a b 0

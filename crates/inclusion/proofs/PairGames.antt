@@ -1,5 +1,5 @@
 -- The pair game of two automata, by numbers, is a game on pairs.
-use Rattle.std.proofs.Common.{◌≡◌, ℕ, ◌%◌, ◌<◌, cond, ltb, sym, refl, ap, ◌∙◌, subst, ap₂, inl, inr, arith}
+use Rattle.std.proofs.Common.{◌≡◌, ℕ, ◌+◌, ◌%◌, ◌<◌, ◌≤◌, Bool, true, false, cond, ◌||◌, ltb, sym, refl, ap, ◌∙◌, subst, ap₂, inl, inr, arith}
 use Rattle.std.proofs.lemmas.Bool.{cond_both, cond-true, lt-ltb}
 use Rattle.parity.specs.Game.{Game, Sound}
 use Rattle.draft.specs.declared.parts.Node.{Node}
@@ -11,19 +11,18 @@ use Rattle.runs.proofs.Formed.{Formed}
 use Rattle.runs.proofs.Tables.{Known, known, first_place, second_place, first_in, second_in}
 use Rattle.runs.proofs.WordGames.{side_below}
 use Rattle.inclusion.specs.declared.place.PairPlace.TheVariants.{AtStates, AtNodes}
-use Rattle.inclusion.specs.PairGame.{pair_owner, pair_degree, states_at, nodes_at, pair_at, nodes_successor, place_owner, place_priority, place_degree, place_successor, pair_moves}
+use Rattle.inclusion.specs.PairGame.{pair_owner, first_moves, second_moves, pair_degree, states_at, nodes_at, pair_at, nodes_successor, place_owner, place_priority, place_degree, place_successor, pair_moves}
 use Rattle.inclusion.proofs.PairArena.{PairAt, PairArena}
 
-degree_some : (n o : Node) → 0 < pair_degree n o
-degree_some (Leaf p) (Leaf q) = omega arith
-degree_some (Leaf p) (Either c d) = omega arith
-degree_some (Leaf p) (Both c d) = omega arith
-degree_some (Either l r) (Leaf q) = omega arith
-degree_some (Either l r) (Either c d) = omega arith
-degree_some (Either l r) (Both c d) = omega arith
-degree_some (Both l r) (Leaf q) = omega arith
-degree_some (Both l r) (Either c d) = omega arith
-degree_some (Both l r) (Both c d) = omega arith
+-- two moves for each node that moves; where neither does, at two leaves, one
+abbrev pub degree_by : Bool → Bool → ℕ
+degree_by first second = cond (first || second) (cond first 2 0 + cond second 2 0) 1
+
+pub degree_within : (f s : Bool) → (0 < degree_by f s) × (degree_by f s ≤ 4)
+degree_within true true = (omega arith, omega arith)
+degree_within true false = (omega arith, omega arith)
+degree_within false true = (omega arith, omega arith)
+degree_within false false = (omega arith, omega arith)
 
 module _ (a b : Automaton) where
   abbrev pub C : Game
@@ -98,7 +97,7 @@ module _ (a b : Automaton) where
     pair_sound = record {
       moves = λ v v<. elim (pair_known v v<) [
         | inl (p, q, p<, q<, e) ↦ subst (λ P. 0 < place_degree a b P) (sym e) some
-        | inr (x, y, x<, y<, e) ↦ subst (λ P. 0 < place_degree a b P) (sym e) (degree_some (node_of a x) (node_of b y))
+        | inr (x, y, x<, y<, e) ↦ subst (λ P. 0 < place_degree a b P) (sym e) (degree_within (first_moves (node_of a x) (node_of b y)) (second_moves (node_of a x) (node_of b y))).0
       ];
       stays = λ v i v< i<. elim (pair_known v v<) [
         | inl (p, q, p<, q<, e) ↦ subst (λ P. place_successor a b P i < C.count) (sym e)

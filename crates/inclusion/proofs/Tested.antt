@@ -1,11 +1,12 @@
 -- The test of stratification holds exactly of the stratified automata.
 use Rattle.std.proofs.Common.{◌≡◌, ℕ, zero, suc, ◌<◌, ◌≤◌, Bool, true, ◌&&◌, eqb, ◌⊎◌, Some, None, Option, sym, refl, ap, ◌∙◌, inl, inr, arith}
-use Rattle.std.proofs.lemmas.Bool.{cases_lt, and_parts, and_from, or_cases, or_left, or_right, leb-true, le-leb, eqb-true, eq-eqb, both_ways}
+use Rattle.std.proofs.lemmas.Bool.{cases_lt, and_parts, and_from, or_cases, leb-true, le-leb, eqb-true, both_ways}
 use Rattle.parity.proofs.Below.{all_gives, all_from}
 use Rattle.draft.specs.declared.parts.Node.{Node}
 use Rattle.draft.specs.declared.parts.Node.TheVariants.{Leaf, Either, Both}
 use Rattle.draft.specs.Automaton.{Automaton, state_count, priority_of, rule_of, node_of}
 use Rattle.draft.specs.WellFormed.{WellFormed, is_child}
+use Rattle.draft.proofs.Children.{left_child, right_child}
 use Rattle.draft.proofs.NoRule.{rule_past_state}
 use Rattle.inclusion.specs.Stratified.{NamedBelow, at_leaf, at_child, node_low, low_to, rule_low, state_low, is_stratified, StratifiedTested}
 
@@ -35,14 +36,15 @@ module _ (a : Automaton) (w : WellFormed a) (b : ℕ) where
   low_from zero x h = refl
   low_from (suc d) x h = go (node_of a x) refl (λ y c. low_from d y (λ q n. h q (at_child c n)))
     where
+      both : (n : Node) (l r : ℕ) → node_of a x ≡ n → ((y : ℕ) → is_child (node_of a x) y ≡ true → low_to a b d y ≡ true) → is_child n l ≡ true → is_child n r ≡ true → node_low a b (low_to a b d) n ≡ (low_to a b d l && low_to a b d r) → node_low a b (low_to a b d) (node_of a x) ≡ true
+      both n l r e rec left right parts =
+          ap (node_low a b (low_to a b d)) e ∙ parts
+          ∙ and_from _ _ (rec l (ap (λ (k : Node). is_child k l) e ∙ left)) (rec r (ap (λ (k : Node). is_child k r) e ∙ right))
+
       go : (n : Node) → node_of a x ≡ n → ((y : ℕ) → is_child (node_of a x) y ≡ true → low_to a b d y ≡ true) → node_low a b (low_to a b d) (node_of a x) ≡ true
       go (Leaf q) e rec = ap (node_low a b (low_to a b d)) e ∙ le-leb _ _ (h q (at_leaf e))
-      go (Either l r) e rec =
-          ap (node_low a b (low_to a b d)) e
-          ∙ and_from _ _ (rec l (ap (λ n. is_child n l) e ∙ or_left _ _ (eq-eqb l l refl))) (rec r (ap (λ n. is_child n r) e ∙ or_right (eqb r l) _ (eq-eqb r r refl)))
-      go (Both l r) e rec =
-          ap (node_low a b (low_to a b d)) e
-          ∙ and_from _ _ (rec l (ap (λ n. is_child n l) e ∙ or_left _ _ (eq-eqb l l refl))) (rec r (ap (λ n. is_child n r) e ∙ or_right (eqb r l) _ (eq-eqb r r refl)))
+      go (Either l r) e rec = both (Either l r) l r e rec (left_child l r) (right_child l r) refl
+      go (Both l r) e rec = both (Both l r) l r e rec (left_child l r) (right_child l r) refl
 
   rule_from : (o : Option ℕ) → ((x : ℕ) → o ≡ Some x → Low x) → rule_low a b o ≡ true
   rule_from (Some x) h = low_from (suc x) x (h x refl)

@@ -1,5 +1,5 @@
 -- Tests of the numbers below a bound.
-use Rattle.std.proofs.Common.{◌≡◌, ℕ, zero, suc, ◌<◌, ◌≤◌, Bool, true, false, cond, Decides, sym, refl, ap, ◌∙◌, ap₂, inl, inr, eq-or-lt_of_le, arith}
+use Rattle.std.proofs.Common.{◌≡◌, ℕ, zero, suc, ◌<◌, ◌≤◌, Bool, true, false, cond, ◌&&◌, Decides, sym, refl, ap, ◌∙◌, ap₂, inl, inr, eq-or-lt_of_le, arith}
 use Rattle.std.proofs.lemmas.Bool.{cases_lt, cases_Bool, and_parts, and_from, or_cases, or_left, or_right, cond-true, cond-false, both_ways}
 use Rattle.parity.specs.Below.{some_below, all_below, least}
 
@@ -81,6 +81,11 @@ unfolding least
 least_cong zero f f' h = refl
 least_cong (suc n) f f' h =
     ap₂ (λ b k. cond b 0 (suc k)) (h 0 (omega arith)) (least_cong n (λ k. f (suc k)) (λ k. f' (suc k)) (λ k l. h (suc k) (omega arith)))
+
+pub all_cong : (n : ℕ) (f f' : ℕ → Bool) → ((k : ℕ) → k < n → f k ≡ f' k) → all_below n f ≡ all_below n f'
+unfolding all_below
+all_cong zero f f' h = refl
+all_cong (suc n) f f' h = ap₂ ◌&&◌ (all_cong n f f' (λ k l. h k (omega arith))) (h n (omega arith))
 
 pub no_from : {P : Type 0} (r : Bool) → Decides r P → (P → ⊥) → r ≡ false
 no_from r d n = elim (cases_Bool r) [ inl e ↦ absurd (n (d.0 e)) | inr e ↦ e ]

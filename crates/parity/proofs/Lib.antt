@@ -12,6 +12,7 @@ pub mod Stutter
 pub mod Won
 pub mod Duel
 pub mod Determined
+pub mod Plans
 pub mod Check
 pub mod Mirrors
 pub mod Tabled

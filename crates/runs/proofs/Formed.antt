@@ -2,11 +2,9 @@
 use Rattle.std.proofs.Common.{◌≡◌, ℕ, ◌<◌, ◌≤◌, true, is_some, Some, None, Option, sym, refl, arith}
 use Rattle.std.proofs.lemmas.Bool.{both_ways}
 use Rattle.parity.proofs.Below.{all_gives}
-use Rattle.draft.specs.declared.parts.Node.{Node}
-use Rattle.draft.specs.declared.parts.Node.TheVariants.{Leaf, Either, Both}
 use Rattle.draft.specs.Automaton.{Automaton, state_count, node_count, priority_of, rule_of, node_of, is_ruled, is_complete}
 use Rattle.draft.specs.WellFormed.{WellFormed, Fits}
-use Rattle.draft.proofs.Children.{either_children, both_children}
+use Rattle.draft.proofs.Children.{node_fits}
 use Rattle.runs.specs.Run.{node_or_0, rule_node}
 
 -- A priority may be 1,000, so that this holds of a turned automaton too, whatever its priorities were.
@@ -18,14 +16,6 @@ pub record Formed (a : Automaton) : Type 0 where
 some_is : (o : Option ℕ) → is_some o ≡ true → o ≡ Some (node_or_0 o)
 some_is (Some x) e = refl
 some_is None e = absurd (both_ways true (sym e) refl)
-
-fits : (a : Automaton) → WellFormed a → (x : ℕ) → x < node_count a → (n : Node) → node_of a x ≡ n → Fits (state_count a) x n
-fits a w x x< (Leaf q) e = w.leaves x q x< e
-fits a w x x< (Either l r) e = either_children a x l r w e
-fits a w x x< (Both l r) e = both_children a x l r w e
-
-pub node_fits : (a : Automaton) → WellFormed a → (x : ℕ) → x < node_count a → Fits (state_count a) x (node_of a x)
-node_fits a w x x< = fits a w x x< (node_of a x) refl
 
 -- a complete automaton has every rule
 pub rule_is : (a : Automaton) → is_complete a ≡ true → (q letter : ℕ) → q < state_count a → letter < a.letters → rule_of a q letter ≡ Some (rule_node a q letter)

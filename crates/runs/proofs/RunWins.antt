@@ -9,8 +9,9 @@ use Rattle.parity.specs.declared.player.Player.TheVariants.{Zero, One}
 use Rattle.parity.proofs.Players.{which}
 use Rattle.parity.proofs.Determined.{reported_wins, move_legal}
 use Rattle.parity.proofs.Duel.{not_both}
+use Rattle.draft.specs.declared.parts.Node.{Node}
 use Rattle.draft.specs.declared.parts.Node.TheVariants.{Leaf, Either, Both}
-use Rattle.draft.specs.Automaton.{Automaton, state_count, node_count, priority_of}
+use Rattle.draft.specs.Automaton.{Automaton, state_count, node_count, priority_of, node_of}
 use Rattle.draft.specs.WellFormed.{Fits}
 use Rattle.runs.specs.Models.{In, Model, by_leaf, by_left, by_right, by_both}
 use Rattle.runs.specs.Run.{rule_node, LeastEven, Accepts}
@@ -27,24 +28,28 @@ module _ (G : Game) (a : Automaton) (word : ℕ → ℕ) (st nd : ℕ → ℕ �
     further : (M : ℕ → Type 0) (i x y : ℕ) → y < node_count a → Step G m One (nd i x) (nd i y) → Reaches M i y → Reaches M i x
     further M i x y y< s w = (w.0, w.1, w.2, first_step G m One (nd i x) (nd i y) (st (suc i) w.0) s (arena.node_high i y y<) w.3)
 
+    -- player 0 chooses the child y, at position k
+    by_choice : (M : ℕ → Type 0) (i x y k : ℕ) → y < node_count a → k < G.degree (nd i x) → G.successor (nd i x) k ≡ nd i y → G.owner (nd i x) ≡ Zero → Reaches M i y → Reaches M i x
+    by_choice M i x y k y< k< to own = further M i x y y< (free G m One (nd i x) _ k k< to (not_one own))
+
+    -- node x, of the shape n
+    shape : (i x : ℕ) → x < node_count a → (n : Node) → node_of a x ≡ n → Fits (state_count a) x n × NodeAt G st nd i x n
+    shape i x x< n e = (subst (Fits (state_count a) x) e (arena.formed.named x x<), subst (NodeAt G st nd i x) e (arena.node_at i x x<))
+
     reaches : (M : ℕ → Type 0) (i x : ℕ) → x < node_count a → Model a M x → Reaches M i x
     reaches M i x x< (by_leaf {q = q} e h) =
-        let n : Fits (state_count a) x (Leaf q) = subst (Fits (state_count a) x) e (arena.formed.named x x<) in
-        let at : NodeAt G st nd i x (Leaf q) = subst (NodeAt G st nd i x) e (arena.node_at i x x<) in
+        let (n, at) = shape i x x< (Leaf q) e in
         (q, n, h, last_step G m One _ _ (forced G m One (nd i x) _ (legal _ (arena.node_in i x x<)) at.0 at.1))
     reaches M i x x< (by_left {l = l} {r = r} e h) =
-        let n : Fits (state_count a) x (Either l r) = subst (Fits (state_count a) x) e (arena.formed.named x x<) in
-        let at : NodeAt G st nd i x (Either l r) = subst (NodeAt G st nd i x) e (arena.node_at i x x<) in
+        let (n, at) = shape i x x< (Either l r) e in
         let l< : l < node_count a = omega (arith, n.0) in
-        further M i x l l< (free G m One (nd i x) _ 0 (omega (arith, at.1)) at.2 (not_one at.0)) (reaches M i l l< h)
+        by_choice M i x l 0 l< (omega (arith, at.1)) at.2 at.0 (reaches M i l l< h)
     reaches M i x x< (by_right {l = l} {r = r} e h) =
-        let n : Fits (state_count a) x (Either l r) = subst (Fits (state_count a) x) e (arena.formed.named x x<) in
-        let at : NodeAt G st nd i x (Either l r) = subst (NodeAt G st nd i x) e (arena.node_at i x x<) in
+        let (n, at) = shape i x x< (Either l r) e in
         let r< : r < node_count a = omega (arith, n.1) in
-        further M i x r r< (free G m One (nd i x) _ 1 (omega (arith, at.1)) at.3 (not_one at.0)) (reaches M i r r< h)
+        by_choice M i x r 1 r< (omega (arith, at.1)) at.3 at.0 (reaches M i r r< h)
     reaches M i x x< (by_both {l = l} {r = r} e h h') =
-        let n : Fits (state_count a) x (Both l r) = subst (Fits (state_count a) x) e (arena.formed.named x x<) in
-        let at : NodeAt G st nd i x (Both l r) = subst (NodeAt G st nd i x) e (arena.node_at i x x<) in
+        let (n, at) = shape i x x< (Both l r) e in
         let l< : l < node_count a = omega (arith, n.0) in
         let r< : r < node_count a = omega (arith, n.1) in
         let first : Reaches M i l = reaches M i l l< h in

@@ -18,7 +18,8 @@ use Rattle.runs.specs.Word.{letter, Readable}
 use Rattle.runs.specs.WordGame.{steps, next_step, state_vertex, node_vertex, vertex_place, node_owner, node_degree, side, place_owner, place_priority, place_degree, state_at, place_at, node_successor, place_successor, word_moves}
 use Rattle.runs.specs.Turning.{Turning}
 use Rattle.runs.proofs.Accepted.{start_in, same_winner, accepted_wins, won_accepts}
-use Rattle.runs.proofs.Dual.{states_same, nodes_same, priority_raised, rule_node_same, node_dual, turned_formed}
+use Rattle.draft.proofs.Dual.{states_same, nodes_same, priority_raised, node_dual}
+use Rattle.runs.proofs.Dual.{rule_node_same, turned_formed}
 use Rattle.runs.proofs.Formed.{Formed, formed}
 use Rattle.runs.proofs.WordGames.{word_known, word_sound, state_place}
 

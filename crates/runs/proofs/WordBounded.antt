@@ -1,18 +1,11 @@
 -- The word game of at most 64 letters keeps the bounds of an arena.
 use Rattle.std.proofs.Common.{◌≡◌, ℕ, ◌≤◌, List, sym, subst, inl, inr, mul-le-mul, arith}
-use Rattle.draft.specs.declared.parts.Node.{Node}
-use Rattle.draft.specs.declared.parts.Node.TheVariants.{Leaf, Either, Both}
 use Rattle.draft.specs.Automaton.{Automaton, state_count, node_count, node_of}
-use Rattle.runs.specs.WordGame.{steps, node_degree, place_priority, place_degree, place_at, word_moves, word_game, word_place}
+use Rattle.runs.specs.WordGame.{steps, place_priority, place_degree, place_at, word_moves, word_game, word_place}
 use Rattle.runs.specs.WordBounds.{WordBounds}
 use Rattle.runs.proofs.Formed.{formed}
 use Rattle.runs.proofs.Insides.{inside_bounds, inside_elsewhere}
-use Rattle.runs.proofs.WordGames.{word_known, word_sound, state_in}
-
-node_narrow : (n : Node) → node_degree n ≤ 16
-node_narrow (Leaf q) = omega arith
-node_narrow (Either l r) = omega arith
-node_narrow (Both l r) = omega arith
+use Rattle.runs.proofs.WordGames.{degree_within, word_known, word_sound, state_in}
 
 pub word_bounded : WordBounds
 word_bounded a w c some prefix period r short =
@@ -28,7 +21,7 @@ word_bounded a w c some prefix period r short =
     ])
     (λ v v<. elim (known v v<) [
       | inl (k, q, k<, q<, e) ↦ subst (λ P. place_degree a P ≤ 16) (sym e) (omega arith)
-      | inr (k, x, k<, x<, e) ↦ subst (λ P. place_degree a P ≤ 16) (sym e) (node_narrow (node_of a x))
+      | inr (k, x, k<, x<, e) ↦ subst (λ P. place_degree a P ≤ 16) (sym e) (omega (arith, (degree_within (node_of a x)).1))
     ])
 
 pub word_elsewhere : (a : Automaton) (prefix period : List ℕ) (v : ℕ) → (word_game a prefix period).count ≤ v → word_place a prefix period v ≡ word_place a prefix period 0

@@ -1,5 +1,5 @@
 -- The word game of an automaton and a repeating word is a game in which that word is read.
-use Rattle.std.proofs.Common.{◌≡◌, ℕ, zero, suc, ◌<◌, List, sym, refl, ap, ◌∙◌, subst, inl, inr, arith}
+use Rattle.std.proofs.Common.{◌≡◌, ℕ, zero, suc, ◌<◌, ◌≤◌, List, sym, refl, ap, ◌∙◌, subst, inl, inr, arith}
 use Rattle.parity.specs.Game.{Game, Sound}
 use Rattle.draft.specs.declared.parts.Node.{Node}
 use Rattle.draft.specs.declared.parts.Node.TheVariants.{Leaf, Either, Both}
@@ -18,10 +18,10 @@ pub side_below : (l r x i : ℕ) → l < x → r < x → side l r i < x
 side_below l r x zero h h' = h
 side_below l r x (suc i) h h' = h'
 
-degree_some : (n : Node) → 0 < node_degree n
-degree_some (Leaf q) = omega arith
-degree_some (Either l r) = omega arith
-degree_some (Both l r) = omega arith
+pub degree_within : (n : Node) → (0 < node_degree n) × (node_degree n ≤ 2)
+degree_within (Leaf q) = (omega arith, omega arith)
+degree_within (Either l r) = (omega arith, omega arith)
+degree_within (Both l r) = (omega arith, omega arith)
 
 module _ (a : Automaton) (formed : Formed a) (prefix period : List ℕ) (readable : Readable a.letters prefix period) where
   abbrev G : Game
@@ -63,7 +63,7 @@ module _ (a : Automaton) (formed : Formed a) (prefix period : List ℕ) (readabl
   word_sound = record {
     moves = λ v v<. elim (word_known v v<) [
       | inl (k, q, k<, q<, e) ↦ subst (λ P. 0 < place_degree a P) (sym e) (omega arith)
-      | inr (k, x, k<, x<, e) ↦ subst (λ P. 0 < place_degree a P) (sym e) (degree_some (node_of a x))
+      | inr (k, x, k<, x<, e) ↦ subst (λ P. 0 < place_degree a P) (sym e) (degree_within (node_of a x)).0
     ];
     stays = λ v i v< _. elim (word_known v v<) [
       | inl (k, q, k<, q<, e) ↦ subst (λ P. place_successor a prefix period P i < G.count) (sym e) (node_in k _ k< (formed.ruled q _ q< (letter_fits k)))

@@ -13,7 +13,7 @@ use Rattle.draft.specs.Calls.{turned, can_turn, turn_over}
 use Rattle.draft.specs.WellFormed.{WellFormed}
 use Rattle.runs.specs.WordGame.{steps, word_game}
 use Rattle.runs.specs.Accepting.{word_winner}
-use Rattle.runs.proofs.Dual.{states_same, nodes_same, complete_same}
+use Rattle.draft.proofs.Dual.{states_same, nodes_same, complete_same}
 use Rattle.runs.proofs.Turned.{turning}
 use Rattle.word.specs.Asking.{letters_known, in_order, asked}
 use Rattle.word.specs.Answer.{verdict_of, once_solved, once_asked, accept_answer}

@@ -10,7 +10,7 @@ use Rattle.draft.specs.Calls.{turned, turn_over}
 use Rattle.draft.specs.WellFormed.{WellFormed}
 use Rattle.runs.specs.WordGame.{steps, word_game}
 use Rattle.runs.specs.Accepting.{word_winner}
-use Rattle.runs.proofs.Dual.{states_same, nodes_same}
+use Rattle.draft.proofs.Dual.{states_same, nodes_same}
 use Rattle.word.specs.Asking.{asked}
 use Rattle.word.specs.Answer.{verdict_of, once_asked, once_solved, accept_answer}
 use Rattle.word.specs.TurnOpposes.{opposed}

@@ -1,7 +1,8 @@
 -- The record of a vertex in a stored arena, and the questions that are asked about it.
-use Rattle.std.specs.Prelude.{ℕ, ◌+◌, ◌*◌, Bool, true, false, cond, ◌&&◌, List, Some, None, Option, ◌==◌, nat_le, nat_lt, slice_index}
+use Rattle.std.specs.Prelude.{ℕ, ◌+◌, ◌*◌, ◌/◌, Bool, true, false, cond, ◌&&◌, List, [], ◌∷◌, length, Some, None, Option, ◌==◌, nat_le, nat_lt, slice_index}
 use Rattle.refusal.specs.declared.Refusal.{Refusal}
 use Rattle.refusal.specs.declared.Refusal.TheVariants.{VertexOwner, VertexPriority, VertexTarget}
+use Rattle.arena.specs.declared.stored.record.Record.{Record}
 
 -- the number in two bytes, the low one first
 abbrev pub word : List ℕ → ℕ → ℕ
@@ -33,3 +34,16 @@ record_refusal b n v =
 abbrev pub is_none : Option Refusal → Bool
 is_none None = true
 is_none (Some r) = false
+
+-- record v as the program reads it
+abbrev pub record_in : List ℕ → ℕ → Record
+record_in b v = record { owner = owner_byte b v; zero = zero_byte b v; priority = stored_priority b v; targets = target b v 0 ∷ target b v 1 ∷ [] }
+
+-- record v, if the bytes have so many records
+abbrev pub record_at : List ℕ → ℕ → Option Record
+record_at b v = cond (nat_lt v (length b / 8)) (Some (record_in b v)) None
+
+-- why a record is none of an arena of n vertices, if so
+abbrev pub fault_of : Record → ℕ → Option Refusal
+fault_of r n =
+    answered (nat_le r.owner 1 && r.zero == 0) (nat_le r.priority 9999) (nat_lt (slice_index r.targets 0) n && nat_lt (slice_index r.targets 1) n)

@@ -1,11 +1,12 @@
 -- A stored arena keeps the bounds: what the questions about its records give.
-use Rattle.std.specs.Prelude.{◌≡◌, ℕ, ◌<◌, ◌≤◌, Bool, true, false, cond, ◌&&◌, List, ◌==◌, nat_le, nat_lt, refl}
+use Rattle.std.specs.Prelude.{◌≡◌, ℕ, ◌/◌, ◌<◌, ◌≤◌, Bool, true, false, cond, ◌&&◌, List, length, Ok, ◌==◌, nat_le, nat_lt, refl}
 use Rattle.std.proofs.Common.{ap, subst, ◌∙◌, inl, inr, arith}
 use Rattle.std.proofs.lemmas.Bool.{cases_lt, cond_both, cond-false, le-ltb, ltb-true, cond-true, lt-ltb, ltb-false, leb-true, and_parts, both_ways}
 use Rattle.arena.specs.Bounds.{Bounds}
 use Rattle.arena.specs.Known.{known_elsewhere}
 use Rattle.arena.specs.Records.{owner_byte, zero_byte, stored_priority, target, answered, record_refusal, is_none}
-use Rattle.arena.specs.Stored.{stored_game, record_number}
+use Rattle.arena.specs.Passed.{yes_passes}
+use Rattle.arena.specs.Stored.{asked, stored_game, record_number}
 use Rattle.arena.specs.declared.stored.RecordNumber.{RecordNumber}
 
 -- a record that no question refuses
@@ -46,6 +47,10 @@ module _ (b : List ℕ) (n : ℕ) (each : (v : ℕ) → v < n → is_none (recor
       | inr m ↦ cond-false (nat_lt v n) _ _ (le-ltb v n m)
     ];
   }
+
+-- the same of bytes about which every question was answered yes
+pub bounds_asked : (b : List ℕ) → asked b ≡ Ok (length b / 8) → Bounds (stored_game b (length b / 8))
+bounds_asked b all = let p = yes_passes b (length b / 8) all in stored_bounds b (length b / 8) p.each p.some p.few
 
 -- the place of a number that is no vertex is that of vertex 0
 pub stored_elsewhere : (n v : ℕ) → n ≤ v → record_number n v ≡ record_number n 0

@@ -1,21 +1,18 @@
 // A stored arena over lent bytes: 8-byte records, one a vertex.
-ghost use Rattle.std.specs.Prelude.{◌≡◌, ℕ, ◌*◌, ◌<◌, ◌≤◌, true, length};
-ghost use Rattle.arena.specs.Records.{record_refusal, is_none};
+ghost use Rattle.std.specs.Prelude.{◌≡◌, ◌/◌, Ok, length};
+ghost use Rattle.arena.specs.Stored.{asked};
 
 use refusal::Refusal;
 
 mod answers;
 mod maker;
+mod record;
 
-// The arena of `count` records in `bytes`, none of which is refused.
+// The arena of the records in `bytes`, about which every question was answered yes.
 #[derive(Clone, Copy)]
 pub struct Stored<'a> {
     bytes: &'a [u8],
-    count: usize,
-    ghost whole: { length bytes.now ≡ 8 * count },
-    ghost some: { 1 ≤ count },
-    ghost few: { count ≤ 4096 },
-    ghost each: { (v : ℕ) → v < count → is_none (record_refusal bytes.now count v) ≡ true },
+    ghost passed: { asked bytes.now ≡ Ok (length bytes.now / 8) },
 }
 
 // What a vertex of a stored arena stands for.
@@ -24,7 +21,7 @@ pub struct RecordNumber {
     pub number: usize,
 }
 
-// Why bytes are no stored arena, and at which record where one is to blame.
+// Why bytes are no stored arena, and at which record, if the question was about one.
 #[derive(Clone, Copy, PartialEq, Debug)]
 pub struct StoredFault {
     pub refusal: Refusal,

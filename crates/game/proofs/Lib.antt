@@ -1,4 +1,6 @@
-pub mod Walks
+pub mod Ranges
+pub mod Least
+pub mod Passed
 pub mod Rounds
 pub mod Advance
 pub mod Finish

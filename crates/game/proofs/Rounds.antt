@@ -1,11 +1,10 @@
 -- What the records decide in a round.
-use Rattle.std.proofs.Common.{◌≡◌, ℕ, zero, suc, ◌+◌, ◌<◌, ◌≤◌, true, false, cond, eqb, ltb, ◌≢◌, ◌⊎◌, List, length, get_or, set, Decides, sym, ap, ◌∙◌, inl, inr, arith, get_or-set_other, get_or-set_same, below_more}
+use Rattle.std.proofs.Common.{◌≡◌, ℕ, zero, suc, ◌+◌, ◌<◌, ◌≤◌, true, false, cond, eqb, ltb, ◌⊎◌, List, get_or, Decides, sym, ap, ◌∙◌, inl, inr, arith}
 use lib.Dec.{eqb-suc-zero}
 use Rattle.std.proofs.lemmas.Bool.{cases_Bool, cases_lt, and_left, cond-true, cond-false, ne_eqb, eq-eqb, both_ways}
 use Rattle.std.proofs.lemmas.Bool.Decides.{Decides-and, Decides-or, Decides-eqb, Decides-ltb, Decides-like, Decides-at, same_from_decides, not_from_Decides}
 use Rattle.parity.specs.Game.{Game, Sound, favoured}
 use Rattle.parity.specs.Player.{same}
-use Rattle.parity.specs.declared.player.Player.TheVariants.{Zero}
 use Rattle.parity.specs.Below.{some_below}
 use Rattle.parity.specs.Grading.{grade, distance}
 use Rattle.parity.proofs.Below.{some_decides, all_decides, some_gives, some_from, no_from}
@@ -16,8 +15,9 @@ use Rattle.parity.proofs.Rounds.{base_test, round_test, each_distance}
 use Rattle.parity.proofs.Crowd.{below_count}
 use Rattle.arena.specs.Bounds.{Bounds}
 use Rattle.game.specs.Outcomes.{blank}
-use Rattle.game.specs.Filling.{unset, ranked, reached, gets, partly, Kept, is_near, some_near, all_behind, joins_now}
+use Rattle.game.specs.Filling.{unnamed, unset, ranked, reached, gets, partly, is_near, some_near, all_behind, joins_now}
 use Rattle.game.specs.declared.outcome.Outcome.{Outcome}
+use Rattle.game.proofs.Passed.{Passed}
 
 pub sound_of : (G : Game) → Bounds G → Sound G
 sound_of G b = record { moves = λ v v<. omega (arith, b.moves v v<); stays = λ v i _ _. b.inside v i }
@@ -64,27 +64,21 @@ module _ (G : Game) (b : Bounds G) where
   same_partly p d p' d' v there back = elim (cases_reached p d v) [ inl r ↦ filled p d v r ∙ sym (filled p' d' v (there r)) | inr n ↦ left p d v n ∙ sym (left p' d' v (λ r. n (back r))) ]
 
   pub not_below : (p d v : ℕ) → (Reached p d v → ⊥) → p ≤ g v
-  not_below p d v n = elim (cases_lt (g v) p) [ inl x ↦ absurd (n (inl x)) | inr x ↦ x ]
+  not_below p d v n = grind arith
 
   -- the record of a vertex, in a round or halfway through it
   module _ (p d : ℕ) (small : p ≤ 9999) (u : ℕ) (u< : u < G.count) (o : Outcome) (e : ℕ) (up : d ≤ e) (is : o ≡ partly G p e u) where
-    pub near_is : Decides (is_near p d o) ((g u ≡ p) × (δ u < d))
-    near_is = Decides-like _ there back (Decides-and (eqb o.grade p) (ltb o.distance d) (Decides-eqb o.grade p) (Decides-ltb o.distance d))
-      where
-        there : (o.grade ≡ p) × (o.distance < d) → (g u ≡ p) × (δ u < d)
-        there (x, y) = elim (cases_reached p e u) [ inl r ↦ (let i = is ∙ filled p e u r in (omega (arith, ap (λ (w : Outcome). w.grade) i), omega (arith, ap (λ (w : Outcome). w.distance) i))) | inr n ↦ absurd (let i = is ∙ left p e u n in omega (arith, ap (λ (w : Outcome). w.grade) i)) ]
+    shown : Reached p e u → (o.grade ≡ g u) × (o.distance ≡ δ u)
+    shown r = let i = is ∙ filled p e u r in (ap (λ (w : Outcome). w.grade) i, ap (λ (w : Outcome). w.distance) i)
 
-        back : (g u ≡ p) × (δ u < d) → (o.grade ≡ p) × (o.distance < d)
-        back (x, y) = (let i = is ∙ filled p e u (inr (x, omega arith)) in (omega (arith, ap (λ (w : Outcome). w.grade) i), omega (arith, ap (λ (w : Outcome). w.distance) i)))
+    hidden : (Reached p e u → ⊥) → o.grade ≡ 65535
+    hidden n = ap (λ (w : Outcome). w.grade) (is ∙ left p e u n)
+
+    pub near_is : Decides (is_near p d o) ((g u ≡ p) × (δ u < d))
+    near_is = Decides-like _ (λ x. grind (arith, cases_reached p e u, shown, hidden)) (λ x. grind (arith, shown)) (Decides-and (eqb o.grade p) (ltb o.distance d) (Decides-eqb o.grade p) (Decides-ltb o.distance d))
 
     pub gone_is : Decides (ltb o.grade p) (g u < p)
-    gone_is = Decides-like _ there back (Decides-ltb o.grade p)
-      where
-        there : o.grade < p → g u < p
-        there x = elim (cases_reached p e u) [ inl r ↦ omega (arith, ap (λ (w : Outcome). w.grade) (is ∙ filled p e u r)) | inr n ↦ absurd (omega (arith, ap (λ (w : Outcome). w.grade) (is ∙ left p e u n))) ]
-
-        back : g u < p → o.grade < p
-        back x = omega (arith, ap (λ (w : Outcome). w.grade) (is ∙ filled p e u (inl x)))
+    gone_is = Decides-like _ (λ x. grind (arith, cases_reached p e u, shown, hidden)) (λ x. grind (arith, shown)) (Decides-ltb o.grade p)
 
   abbrev pub Between : ℕ → ℕ → List Outcome → Type 0
   Between p d l = (u : ℕ) → u < G.count → (e : ℕ) × (d ≤ e) × (get_or l u blank ≡ partly G p e u)
@@ -124,7 +118,7 @@ module _ (G : Game) (b : Bounds G) where
         old r =
             let s = ap (λ (w : Outcome). w.grade) (here ∙ filled p d v r) in
             and_left (eqb (get_or l v blank).grade 65535) _ (ne_eqb _ _ (λ x. omega (arith, g_small v v<)))
-            ∙ sym (no_from _ (gets_is p d v) (λ h. elim r [ inl x ↦ omega (arith, h.0) | inr x ↦ omega (arith, h.1, x.1) ]))
+            ∙ sym (no_from _ (gets_is p d v) (λ h. grind arith))
 
         new : (Reached p d v → ⊥) → joins_now G l p d v ≡ gets G p d v
         new n =
@@ -132,49 +126,26 @@ module _ (G : Game) (b : Bounds G) where
             same_from_decides _ _ (Decides-like _ (λ h. h.1) (λ h. (s, h)) (Decides-and (eqb (get_or l v blank).grade 65535) _ ((λ x. x), (λ x. x)) (test_is d at n))) (gets_is p d v)
 
   -- one distance more
-  pub next_new : (p d v : ℕ) → gets G p d v ≡ true → partly G p (d + 1) v ≡ record { winner = Zero; grade = p; distance = d; choice = 0 }
+  pub next_new : (p d v : ℕ) → gets G p d v ≡ true → unnamed p d ≡ partly G p (d + 1) v
   next_new p d v e =
       let h = (gets_is p d v).0 e in
-      filled p (d + 1) v (inr (h.0, omega (arith, h.1)))
-      ∙ (λ i. record { winner = Zero; grade = h.0 i; distance = h.1 i; choice = 0 })
+      sym (filled p (d + 1) v (inr (h.0, omega (arith, h.1))) ∙ (λ i. unnamed (h.0 i) (h.1 i)))
 
-  pub next_old : (p d v : ℕ) → gets G p d v ≡ false → partly G p (d + 1) v ≡ partly G p d v
-  next_old p d v e = same_partly p (d + 1) p d v less more
-    where
-      more : Reached p d v → Reached p (d + 1) v
-      more (inl x) = inl x
-      more (inr x) = inr (x.0, omega (arith, x.1))
-
-      less : Reached p (d + 1) v → Reached p d v
-      less (inl x) = inl x
-      less (inr x) = elim (cases_lt (δ v) d) [ inl y ↦ inr (x.0, y) | inr y ↦ absurd (not_from_Decides _ (gets_is p d v) e (x.0, omega (arith, x.1))) ]
+  pub next_old : (p d v : ℕ) → gets G p d v ≡ false → partly G p d v ≡ partly G p (d + 1) v
+  next_old p d v e =
+      let other = not_from_Decides _ (gets_is p d v) e in
+      same_partly p d p (d + 1) v (λ r. grind arith) (λ r. grind arith)
 
 -- a round has come to v
-pub record Halfway (G : Game) (p d v : ℕ) (before l : List Outcome) : Type 0 where
-  pub new : (k : ℕ) → k < v → get_or l k blank ≡ partly G p (d + 1) k
-  pub old : (k : ℕ) → v ≤ k → k < G.count → get_or l k blank ≡ partly G p d k
-  pub kept : Kept G.count before l
+abbrev pub Halfway : Game → ℕ → ℕ → ℕ → List Outcome → List Outcome → Type 0
+Halfway G p d = Passed G.count (partly G p (d + 1)) (partly G p d)
 
-module _ (G : Game) (b : Bounds G) (p d v : ℕ) (before l : List Outcome) (v< : v < G.count) (h : Halfway G p d v before l) where
-  between : Between G b p d l
-  between u u< = elim (cases_lt u v) [ inl x ↦ (d + 1, omega arith, h.new u x) | inr x ↦ (d, omega arith, h.old u x u<) ]
-
-  pub tells : p ≤ 9999 → joins_now G l p d v ≡ gets G p d v
-  tells small = joins_is G b l p small v v< d between (h.old v (omega arith) v<)
-
-  pub pass : gets G p d v ≡ false → Halfway G p d (v + 1) before l
-  pass e = record {
-    new = below_more _ _ h.new (h.old v (omega arith) v< ∙ sym (next_old G b p d v e));
-    old = λ k x k<. h.old k (omega arith) k<;
-    kept = h.kept;
-  }
-
-  pub store : v < length l → gets G p d v ≡ true → Halfway G p d (v + 1) before (set l v (record { winner = Zero; grade = p; distance = d; choice = 0 }))
-  store lt e = record {
-    new = below_more _ _ (λ k x. let ne : k ≢ v = omega arith in rw get_or-set_other (h.new k x)) (rw get_or-set_same (sym (next_new G b p d v e)));
-    old = λ k x k<. let ne : k ≢ v = omega arith in rw get_or-set_other (h.old k (omega arith) k<);
-    kept = λ k x. let ne : k ≢ v = omega arith in rw get_or-set_other (h.kept k x);
-  }
+-- the records tell then whether v gets distance d
+pub tells : (G : Game) (b : Bounds G) (p d v : ℕ) (before l : List Outcome) → v < G.count → Halfway G p d v before l → p ≤ 9999 → joins_now G l p d v ≡ gets G p d v
+tells G b p d v before l v< h small = joins_is G b l p small v v< d between (h.ahead v (omega arith) v<)
+  where
+    between : Between G b p d l
+    between u u< = elim (cases_lt u v) [ inl x ↦ (d + 1, omega arith, h.done u x) | inr x ↦ (d, omega arith, h.ahead u x u<) ]
 
 module _ (G : Game) (b : Bounds G) (p d : ℕ) where
   -- a round that finds one has not passed the count
@@ -185,17 +156,9 @@ module _ (G : Game) (b : Bounds G) (p d : ℕ) where
 
   -- a round that finds none ends the stage
   pub stage_ends : some_below G.count (gets G p d) ≡ false → (v : ℕ) → v < G.count → partly G p (d + 1) v ≡ partly G (p + 1) 0 v
-  stage_ends e v v< = same_partly G b p (d + 1) (p + 1) 0 v there back
+  stage_ends e v v< = same_partly G b p (d + 1) (p + 1) 0 v (λ r. grind arith) (λ r. grind (arith, lost))
     where
-      there : Reached G b p (d + 1) v → Reached G b (p + 1) 0 v
-      there (inl x) = inl (omega arith)
-      there (inr x) = inl (omega (arith, x.0))
-
-      back : Reached G b (p + 1) 0 v → Reached G b p (d + 1) v
-      back (inr x) = absurd (omega (arith, x.1))
-      back (inl x) = elim (cases_lt (grade G v) p) [ inl y ↦ inl y | inr y ↦ (let s : grade G v ≡ p = omega arith in elim (cases_lt (distance G v) d) [ inl z ↦ inr (s, omega arith) | inr z ↦ absurd (lost s z) ]) ]
-        where
-          lost : grade G v ≡ p → d ≤ distance G v → ⊥
-          lost s z =
-              let r = each_distance G (sound G b) (grade G) (distance G) (table G b) (suc (distance G v)) v d v< (omega arith) z in
-              both_ways _ e (some_from G.count (gets G p d) r.0 r.1 ((gets_is G b p d r.0).1 (r.2 ∙ s, r.3)))
+      lost : grade G v ≡ p → d ≤ distance G v → ⊥
+      lost s z =
+          let r = each_distance G (sound G b) (grade G) (distance G) (table G b) (suc (distance G v)) v d v< (omega arith) z in
+          both_ways _ e (some_from G.count (gets G p d) r.0 r.1 ((gets_is G b p d r.0).1 (r.2 ∙ s, r.3)))

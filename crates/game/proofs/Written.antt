@@ -1,6 +1,8 @@
 -- Records that are right one by one are right as a list.
-use Rattle.std.proofs.Common.{◌≡◌, ℕ, zero, suc, ◌-◌, ◌<◌, ◌≤◌, Bool, true, false, cond, leb, List, [], ◌∷◌, ◌++◌, length, get_or, drop, Ok, Err, Result, sym, refl, ap, ◌∙◌, inl, inr, eq-or-lt_of_le, arith, length-append, length-drop, ext_get_or}
-use Rattle.std.proofs.lemmas.List.{get_or_append_left, get_or-append_right, get_or_push, length_push, get_or-drop}
+use Rattle.std.proofs.Common.{◌≡◌, ℕ, zero, suc, ◌-◌, ◌<◌, ◌≤◌, Bool, true, false, cond, leb, List, [], ◌∷◌, ◌++◌, map, length, add-one, get_or, drop, Ok, Err, Result, sym, refl, ap, ◌∙◌, inl, inr, arith, length-append, length-drop, ext_get_or}
+use Rattle.std.proofs.lemmas.List.{get_or_append_left, get_or-append_right, get_or-drop}
+use Rattle.std.specs.List.{range_with_len}
+use Rattle.std.proofs.lemmas.List.FromFn.{length-map-range_with_len, get_or-map-range_with_len, map-range_with_len_more}
 use Rattle.std.proofs.lemmas.Bool.{cases_lt, cond-true, cond-false, le-leb, lt-leb, leb-true}
 use Rattle.refusal.specs.declared.Refusal.{Refusal}
 use Rattle.refusal.specs.declared.Refusal.TheVariants.{Room}
@@ -10,21 +12,16 @@ use Rattle.game.specs.Filling.{Kept}
 use Rattle.game.specs.declared.outcome.Outcome.{Outcome}
 
 module _ (G : Game) where
-  length_outcomes : (n : ℕ) → length (outcomes G n) ≡ n
+  outcomes_is : (n : ℕ) → outcomes G n ≡ map (outcome G) (range_with_len 0 n)
   unfolding outcomes
-  length_outcomes zero = refl
-  length_outcomes (suc n) = length_push (outcomes G n) (outcome G n) ∙ omega (arith, length_outcomes n)
+  outcomes_is zero = refl
+  outcomes_is (suc n) = ap (λ l. l ++ outcome G n ∷ []) (outcomes_is n) ∙ sym (rw add-one at (map-range_with_len_more (outcome G) 0 n n (omega arith)))
+
+  length_outcomes : (n : ℕ) → length (outcomes G n) ≡ n
+  length_outcomes n = rw (outcomes_is n) (length-map-range_with_len (outcome G) 0 n)
 
   at_outcomes : (n v : ℕ) → v < n → get_or (outcomes G n) v blank ≡ outcome G v
-  unfolding outcomes
-  at_outcomes zero v l = absurd (omega arith)
-  at_outcomes (suc n) v l =
-      let le : v ≤ n = omega arith in
-      let here = length_outcomes n in
-      elim (eq-or-lt_of_le le) [
-        | inl e ↦ get_or_push (outcomes G n) (outcome G n) blank v (here ∙ sym e) ∙ ap (outcome G) (sym e)
-        | inr less ↦ get_or_append_left (outcomes G n) (outcome G n ∷ []) blank v (omega arith) ∙ at_outcomes n v less
-      ]
+  at_outcomes n v v< = rw (outcomes_is n) (get_or-map-range_with_len (outcome G) 0 n v v blank v< (omega arith))
 
   written : (before after : List Outcome) → length after ≡ length before → G.count ≤ length before → ((v : ℕ) → v < G.count → get_or after v blank ≡ outcome G v) → Kept G.count before after → after ≡ outcomes G G.count ++ drop G.count before
   written before after same room new kept = ext_get_or blank after _ long each
@@ -56,7 +53,7 @@ module _ (G : Game) where
 
   by_room : (b : Bool) (before after new : List Outcome) → ◌≡◌ {A = Result (Unit {0}) Refusal × List Outcome} (Ok tt, after) (cond b (Ok tt, new) (Err Room, before)) → (b ≡ true) × (after ≡ new)
   by_room true before after new e = (refl, ap (λ r. r.1) e)
-  by_room false before after new e = absurd (let f : ◌≡◌ {A = Result (Unit {0}) Refusal} (Ok tt) (Err Room) = ap (λ r. r.0) e in let z : ◌≡◌ {A = ℕ} 0 1 = cc in omega arith)
+  by_room false before after new e = absurd (let f : ◌≡◌ {A = Result (Unit {0}) Refusal} (Ok tt) (Err Room) = ap (λ r. r.0) e in cc)
 
   pub solved_gives : (before after : List Outcome) → (Ok tt, after) ≡ solved G before → Solved before after
   solved_gives before after e =

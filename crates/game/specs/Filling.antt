@@ -8,6 +8,10 @@ use Rattle.parity.specs.declared.player.Player.TheVariants.{Zero}
 use Rattle.game.specs.Outcomes.{blank}
 use Rattle.game.specs.declared.outcome.Outcome.{Outcome}
 
+-- a record of grade p and distance d, whose winner and move are not named yet
+abbrev pub unnamed : ℕ → ℕ → Outcome
+unnamed p d = record { winner = Zero; grade = p; distance = d; choice = 0 }
+
 -- a vertex that has no grade yet
 abbrev pub unset : Outcome
 unset = record { winner = Zero; grade = 65535; distance = 0; choice = 0 }

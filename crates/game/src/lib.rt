@@ -5,6 +5,7 @@ mod moves;
 mod outcome;
 mod ranks;
 mod solver;
+mod table;
 
-pub use outcome::Outcome;
+pub use outcome::{BLANK, Outcome};
 pub use solver::solve;

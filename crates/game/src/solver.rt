@@ -3,9 +3,8 @@ ghost use Rattle.std.specs.Prelude.{◌≡◌, ◌≤◌, length};
 ghost use Rattle.parity.specs.Determinacy.{Determined};
 ghost use Rattle.game.specs.Outcomes.{solved, Reported};
 
-use crate::moves::finish;
 use crate::outcome::Outcome;
-use crate::ranks::rank;
+use crate::table::Table;
 use arena::Arena;
 use refusal::Refusal;
 
@@ -18,7 +17,11 @@ pub fn solve<X: Arena>(arena: &X, out: &mut [Outcome]) -> Result<(), Refusal>
     if out.len() < arena.count() {
         return Err(Refusal::Room);
     }
-    rank(arena, out);
-    finish(arena, out);
+    let mut table = Table {
+        arena,
+        records: out,
+    };
+    table.rank();
+    table.finish();
     Ok(())
 }

@@ -1,7 +1,9 @@
 -- A test of a table, vertex by vertex.
-use Rattle.std.proofs.Common.{◌≡◌, ℕ, suc, ◌<◌, Bool, true, false, cond, not, ◌&&◌, ◌||◌, eqb, ltb, leb, sym, refl, ◌∙◌, inl, inr, arith}
+use Rattle.std.proofs.Common.{◌≡◌, ℕ, suc, ◌<◌, Bool, true, false, cond, not, ◌&&◌, ◌||◌, eqb, ltb, leb, sym, ap, ◌∙◌, inl, inr, zero-le}
 use mathlib.Core.Bool
-use Rattle.std.proofs.lemmas.Bool.{cases_lt, cond-true, cond-false, and_parts, or_cases, eqb-true, eqb-false, ltb-true, leb-true, eq-eqb, not-true}
+use Rattle.std.specs.Cmp.{booleans_Decides}
+use Rattle.std.proofs.Math.Nat.{ne_of_gt, le_trans}
+use Rattle.std.proofs.lemmas.Bool.{cases_lt, cond-true, cond-false, and_parts, eqb-true, ltb-true, leb-true, eq-eqb, ne_eqb, le-ltb, lt-leb, not_from_true}
 use Rattle.parity.specs.Grading.{level}
 use Rattle.parity.specs.Game.{Game, Sound, favoured}
 use Rattle.parity.specs.Player.{other, same}
@@ -9,6 +11,9 @@ use Rattle.parity.specs.Below.{some_below, all_below}
 use Rattle.parity.proofs.Players.{same_true, true_same, false_same}
 use Rattle.parity.proofs.Below.{some_gives, all_gives}
 use Rattle.parity.specs.Certificate.{Fits, Certificate}
+
+or_right_part : (x y : Bool) → (x || y) ≡ true → x ≡ false → y ≡ true
+or_right_part x y t e = sym (ap (λ z. z || y) e) ∙ t
 
 module _ (G : Game) (g δ : ℕ → ℕ) (v : ℕ) where
   abbrev at_low : Bool
@@ -35,52 +40,28 @@ module _ (G : Game) (g δ : ℕ → ℕ) (v : ℕ) where
 
   pub fits_from : fits ≡ true → Fits G g δ v
   unfolding fits
-  fits_from t = record {
-    low = leb-true _ _ lows0.0;
-    base = λ z. eqb-true _ _ ((beq (eqb (δ v) 0) (eqb (g v) (level G v)) lows0.1).0 (eq-eqb _ _ z));
-    top = λ z. eqb-true _ _ ((beq (eqb (δ v) 0) (eqb (g v) (level G v)) lows0.1).1 (eq-eqb _ _ z));
-    short = leb-true _ _ lows.1;
-    keep = (let k = some_gives _ _ p2.1 in (k.0, k.1, leb-true _ _ k.2));
-    lower = λ i i< l. elim (or_cases _ _ (all_gives _ _ p3.1 i i<)) [ inl h ↦ absurd (let h' = leb-true (g v) (g (G.successor v i)) h in omega arith) | inr h ↦ same_true _ _ h ];
-    mine = λ own pos. let k = some_gives _ _ (own_part own pos).0 in let q = and_parts _ _ k.2 in (k.0, k.1, eqb-true _ _ q.0, ltb-true _ _ q.1);
-    mine_least = λ own i i< e. elim (cases_lt 0 (δ v)) [ inl pos ↦ elim (or_cases _ _ (all_gives _ _ (own_part own pos).1 i i<)) [ inl h ↦ absurd (eqb-false _ _ (not-true _ h) e) | inr h ↦ leb-true _ _ h ] | inr none ↦ omega arith ];
-    theirs = λ own pos i i< up. elim (or_cases _ _ (all_gives _ _ (other_part own pos).0 i i<)) [ inl h ↦ absurd (let h' = ltb-true (g (G.successor v i)) (g v) h in omega arith) | inr h ↦ (let q = and_parts _ _ h in (eqb-true _ _ q.0, ltb-true _ _ q.1)) ];
-    theirs_least = λ own pos. let k = some_gives _ _ (other_part own pos).1 in let q = and_parts _ _ k.2 in (k.0, k.1, eqb-true _ _ q.0, leb-true _ _ q.1);
-  }
-    where
-      p4 : ((at_low && at_keep && at_lower) ≡ true) × ((eqb (δ v) 0 || cond (same (G.owner v) (favoured G (g v))) at_mine at_theirs) ≡ true)
-      p4 = and_parts _ _ t
-
-      p3 : ((at_low && at_keep) ≡ true) × (at_lower ≡ true)
-      p3 = and_parts _ _ p4.0
-
-      p2 : (at_low ≡ true) × (at_keep ≡ true)
-      p2 = and_parts _ _ p3.0
-
-      lows : ((leb (g v) (level G v) && Bool.beq (eqb (δ v) 0) (eqb (g v) (level G v))) ≡ true) × (leb (δ v) G.count ≡ true)
-      lows = and_parts _ _ p2.0
-
-      lows0 : (leb (g v) (level G v) ≡ true) × (Bool.beq (eqb (δ v) 0) (eqb (g v) (level G v)) ≡ true)
-      lows0 = and_parts _ _ lows.0
-
-      beq : (a b : Bool) → Bool.beq a b ≡ true → (a ≡ true → b ≡ true) × (b ≡ true → a ≡ true)
-      beq true true e = (λ _. refl, λ _. refl)
-      beq true false e = (λ _. e, λ _. refl)
-      beq false true e = (λ _. refl, λ _. e)
-      beq false false e = (λ h. h, λ h. h)
-
-      part : 0 < δ v → cond (same (G.owner v) (favoured G (g v))) at_mine at_theirs ≡ true
-      part pos = elim (or_cases (eqb (δ v) 0) (cond (same (G.owner v) (favoured G (g v))) at_mine at_theirs) p4.1) [ inl z ↦ absurd (let z' = eqb-true (δ v) 0 z in omega arith) | inr h ↦ h ]
-
-      own_part : G.owner v ≡ favoured G (g v) → 0 < δ v →
-          (some_below (G.degree v) (λ i. eqb (g (G.successor v i)) (g v) && ltb (δ (G.successor v i)) (δ v)) ≡ true)
-          × (all_below (G.degree v) (λ i. not (eqb (g (G.successor v i)) (g v)) || leb (δ v) (suc (δ (G.successor v i)))) ≡ true)
-      own_part own pos = and_parts _ _ (sym (cond-true _ at_mine at_theirs (true_same _ _ own)) ∙ part pos)
-
-      other_part : G.owner v ≡ other (favoured G (g v)) → 0 < δ v →
-          (all_below (G.degree v) (λ i. ltb (g (G.successor v i)) (g v) || (eqb (g (G.successor v i)) (g v) && ltb (δ (G.successor v i)) (δ v))) ≡ true)
-          × (some_below (G.degree v) (λ i. eqb (g (G.successor v i)) (g v) && leb (δ v) (suc (δ (G.successor v i)))) ≡ true)
-      other_part own pos = and_parts _ _ (sym (cond-false _ at_mine at_theirs (false_same _ _ own)) ∙ part pos)
+  fits_from t =
+      let p4 = and_parts _ _ t in
+      let p3 = and_parts _ _ p4.0 in
+      let p2 = and_parts _ _ p3.0 in
+      let lows = and_parts _ _ p2.0 in
+      let low = and_parts _ _ lows.0 in
+      let zero_alike = (booleans_Decides (eqb (δ v) 0) (eqb (g v) (level G v))).0 low.1 in
+      let part = λ (pos : 0 < δ v). or_right_part _ _ p4.1 (ne_eqb _ _ (ne_of_gt pos)) in
+      let own_part = λ (own : G.owner v ≡ favoured G (g v)) (pos : 0 < δ v). and_parts _ _ (sym (cond-true _ at_mine at_theirs (true_same _ _ own)) ∙ part pos) in
+      let other_part = λ (own : G.owner v ≡ other (favoured G (g v))) (pos : 0 < δ v). and_parts _ _ (sym (cond-false _ at_mine at_theirs (false_same _ _ own)) ∙ part pos) in
+      record {
+        low = leb-true _ _ low.0;
+        base = λ z. eqb-true _ _ (sym zero_alike ∙ eq-eqb _ _ z);
+        top = λ e. eqb-true _ _ (zero_alike ∙ eq-eqb _ _ e);
+        short = leb-true _ _ lows.1;
+        keep = (let k = some_gives _ _ p2.1 in (k.0, k.1, leb-true _ _ k.2));
+        lower = λ i i< l. same_true _ _ (or_right_part _ _ (all_gives _ _ p3.1 i i<) (lt-leb _ _ l));
+        mine = λ own pos. let k = some_gives _ _ (own_part own pos).0 in let q = and_parts _ _ k.2 in (k.0, k.1, eqb-true _ _ q.0, ltb-true _ _ q.1);
+        mine_least = λ own i i< e. elim (cases_lt 0 (δ v)) [ inl pos ↦ leb-true _ _ (or_right_part _ _ (all_gives _ _ (own_part own pos).1 i i<) (not_from_true _ (eq-eqb _ _ e))) | inr none ↦ le_trans none zero-le ];
+        theirs = λ own pos i i< up. let q = and_parts _ _ (or_right_part _ _ (all_gives _ _ (other_part own pos).0 i i<) (le-ltb _ _ up)) in (eqb-true _ _ q.0, ltb-true _ _ q.1);
+        theirs_least = λ own pos. let k = some_gives _ _ (other_part own pos).1 in let q = and_parts _ _ k.2 in (k.0, k.1, eqb-true _ _ q.0, leb-true _ _ q.1);
+      }
 
 unfoldable pub fits_all : Game → (ℕ → ℕ) → (ℕ → ℕ) → Bool
 fits_all G g δ = all_below G.count (fits G g δ)

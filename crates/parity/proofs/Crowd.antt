@@ -1,23 +1,25 @@
 -- Every distance is below the count: each smaller one stands at a vertex of its own.
-use Rattle.std.proofs.Common.{◌≡◌, ℕ, zero, suc, ◌<◌, ◌≤◌, Bool, true, false, ◌&&◌, eqb, leb, refl, arith}
-use Rattle.std.proofs.lemmas.Bool.{and_parts, and_from, and_right, both_ways, leb-true, eq-eqb, le-leb, lt-leb}
+use Rattle.std.proofs.Common.{◌≡◌, ℕ, zero, suc, ◌<◌, ◌≤◌, Bool, true, ◌&&◌, eqb, ltb, Decides, arith}
+use Rattle.std.proofs.lemmas.Bool.Decides.{Decides-and, Decides-eqb, Decides-ltb}
 use Rattle.parity.specs.Game.{Game, Sound}
 use Rattle.parity.specs.Certificate.{Certificate}
+use Rattle.parity.proofs.Below.{no_from}
 use Rattle.parity.proofs.Size.{size, size_le, size_more}
 use Rattle.parity.proofs.Rounds.{each_distance}
 
 module _ (G : Game) (sound : Sound G) (g δ : ℕ → ℕ) (table : Certificate G g δ) (v : ℕ) (v< : v < G.count) where
   abbrev near : ℕ → ℕ → Bool
-  near k u = eqb (g u) (g v) && leb (δ u) k
+  near k u = eqb (g u) (g v) && ltb (δ u) k
 
-  crowd : (k : ℕ) → k ≤ δ v → k < size G.count (near k)
-  crowd zero h =
-      let r = each_distance G sound g δ table (suc (δ v)) v 0 v< (omega arith) h in
-      omega (arith, size_more G.count (λ _. false) (near 0) (λ u _ e. absurd (both_ways false refl e)) r.0 r.1 refl (and_from _ _ (eq-eqb _ _ r.2) (le-leb _ _ (omega (arith, r.3)))))
+  near_is : (k u : ℕ) → Decides (near k u) ((g u ≡ g v) × (δ u < k))
+  near_is k u = Decides-and _ _ (Decides-eqb (g u) (g v)) (Decides-ltb (δ u) k)
+
+  crowd : (k : ℕ) → k ≤ suc (δ v) → k ≤ size G.count (near k)
+  crowd zero h = omega arith
   crowd (suc k) h =
-      let r = each_distance G sound g δ table (suc (δ v)) v (suc k) v< (omega arith) h in
-      let more : (u : ℕ) → u < G.count → near k u ≡ true → near (suc k) u ≡ true = λ u _ e. (let q = and_parts (eqb (g u) (g v)) (leb (δ u) k) e in and_from _ _ q.0 (le-leb _ _ (omega (arith, leb-true (δ u) k q.1)))) in
-      omega (arith, crowd k (omega arith), size_more G.count (near k) (near (suc k)) more r.0 r.1 (and_right (eqb (g r.0) (g v)) _ (lt-leb _ _ (omega (arith, r.3)))) (and_from _ _ (eq-eqb _ _ r.2) (le-leb _ _ (omega (arith, r.3)))))
+      let r = each_distance G sound g δ table (suc (δ v)) v k v< (omega arith) (omega arith) in
+      let more = λ (u : ℕ) (u< : u < G.count) (e : near k u ≡ true). (let n = (near_is k u).0 e in (near_is (suc k) u).1 (n.0, omega (arith, n.1))) in
+      omega (arith, crowd k (omega arith), size_more G.count (near k) (near (suc k)) more r.0 r.1 (no_from _ (near_is k r.0) (λ n. omega (arith, n.1, r.3))) ((near_is (suc k) r.0).1 (r.2, omega (arith, r.3))))
 
   pub below_count : δ v < G.count
-  below_count = omega (arith, crowd (δ v) (omega arith), size_le G.count (near (δ v)))
+  below_count = omega (arith, crowd (suc (δ v)) (omega arith), size_le G.count (near (suc (δ v))))

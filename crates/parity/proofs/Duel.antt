@@ -3,8 +3,9 @@ use Rattle.std.proofs.Common.{◌≡◌, ℕ, zero, suc, ◌<◌, List, [], ◌�
 use Rattle.parity.specs.Game.{Game, Sound, favoured}
 use Rattle.parity.specs.Player.{other}
 use Rattle.parity.specs.Play.{Play, Wins, Plan, before, Follows, Winning}
-use Rattle.parity.proofs.Players.{which, apart, twice}
+use Rattle.parity.proofs.Players.{which, twice}
 use Rattle.parity.specs.declared.player.Player.{Player}
+use Rattle.parity.specs.declared.player.Player.TheVariants.{Zero, One}
 
 -- no play is won by both
 module _ (G : Game) (x : Player) (π : ℕ → ℕ) (hers : Wins G x π) (his : Wins G (other x) π) where
@@ -15,58 +16,57 @@ module _ (G : Game) (x : Player) (π : ℕ → ℕ) (hers : Wins G x π) (his : 
   pub not_both : ⊥
   not_both = descent (suc (G.priority (π 0))) 0 (omega arith)
 
--- the play of two plans from v
-module _ (G : Game) (x : Player) (hers his : Plan) where
-  choose : Plan
-  choose past u = elim (which (G.owner u) x) [ inl _ ↦ hers past u | inr _ ↦ his past u ]
-
-  choose_hers : (past : List ℕ) (u : ℕ) → G.owner u ≡ x → choose past u ≡ hers past u
-  unfolding choose
-  choose_hers past u own = elim (which (G.owner u) x) as (λ w. ◌≡◌ {A = ℕ} (elim w [ inl _ ↦ hers past u | inr _ ↦ his past u ]) (hers past u)) [ inl _ ↦ refl | inr e ↦ absurd (apart x (sym own ∙ e)) ]
-
-  choose_his : (past : List ℕ) (u : ℕ) → G.owner u ≡ other x → choose past u ≡ his past u
-  unfolding choose
-  choose_his past u own = elim (which (G.owner u) x) as (λ w. ◌≡◌ {A = ℕ} (elim w [ inl _ ↦ hers past u | inr _ ↦ his past u ]) (his past u)) [ inl e ↦ absurd (apart x (sym e ∙ own)) | inr _ ↦ refl ]
-
+-- the play from v in which each player moves by her plan
+module _ (G : Game) (plans : Player → Plan) (v : ℕ) where
   -- the vertices before the i-th, and the i-th
-  state : ℕ → ℕ → List ℕ × ℕ
-  state v zero = ([], v)
-  state v (suc i) = let (past, u) = state v i in (u ∷ past, G.successor u (choose past u))
+  state : ℕ → List ℕ × ℕ
+  state zero = ([], v)
+  state (suc i) = let (past, u) = state i in (u ∷ past, G.successor u (plans (G.owner u) past u))
 
-  pub duel : ℕ → ℕ → ℕ
-  duel v i = (state v i).1
+  pub duel : ℕ → ℕ
+  duel i = (state i).1
 
-  past_is : (v i : ℕ) → before (duel v) i ≡ (state v i).0
+  past_is : (i : ℕ) → before duel i ≡ (state i).0
   unfolding duel state
-  past_is v zero = refl
-  past_is v (suc i) = ap (λ l. (state v i).1 ∷ l) (past_is v i)
+  past_is zero = refl
+  past_is (suc i) = ap (λ l. (state i).1 ∷ l) (past_is i)
 
-  duel_next : (v i : ℕ) → duel v (suc i) ≡ G.successor (duel v i) (choose (before (duel v) i) (duel v i))
+  abbrev choice : ℕ → ℕ
+  choice i = plans (G.owner (duel i)) (before duel i) (duel i)
+
+  duel_next : (i : ℕ) → duel (suc i) ≡ G.successor (duel i) (choice i)
   unfolding duel state
-  duel_next v i = ap (λ l. G.successor (state v i).1 (choose l (state v i).1)) (sym (past_is v i))
+  duel_next i = ap (λ l. G.successor (state i).1 (plans (G.owner (state i).1) l (state i).1)) (sym (past_is i))
 
-  pub duel_hers : (v : ℕ) → Follows G x hers (duel v)
-  duel_hers v i own = duel_next v i ∙ ap (G.successor (duel v i)) (choose_hers (before (duel v) i) (duel v i) own)
+  pub duel_follows : (x : Player) → Follows G x (plans x) duel
+  duel_follows x i own = duel_next i ∙ ap (λ y. G.successor (duel i) (plans y (before duel i) (duel i))) own
 
-  pub duel_his : (v : ℕ) → Follows G (other x) his (duel v)
-  duel_his v i own = duel_next v i ∙ ap (G.successor (duel v i)) (choose_his (before (duel v) i) (duel v i) own)
+  module _ (sound : Sound G) (v< : v < G.count) (legal : (x : Player) (past : List ℕ) (u : ℕ) → u < G.count → G.owner u ≡ x → plans x past u < G.degree u) where
+    inside : (i : ℕ) → duel i < G.count
+    inside zero = unfold duel state in v<
+    inside (suc i) = rw (duel_next i) (sound.stays (duel i) (choice i) (inside i) (legal (G.owner (duel i)) (before duel i) (duel i) (inside i) refl))
 
-  module _ (sound : Sound G) (v : ℕ) (v< : v < G.count) (hers-legal : (past : List ℕ) (u : ℕ) → u < G.count → G.owner u ≡ x → hers past u < G.degree u) (his-legal : (past : List ℕ) (u : ℕ) → u < G.count → G.owner u ≡ other x → his past u < G.degree u) where
-    legal : (past : List ℕ) (u : ℕ) → u < G.count → choose past u < G.degree u
-    legal past u u< = elim (which (G.owner u) x) [ inl e ↦ rw (choose_hers past u e) (hers-legal past u u< e) | inr e ↦ rw (choose_his past u e) (his-legal past u u< e) ]
-
-    duel_inside : (i : ℕ) → duel v i < G.count
-    duel_inside zero = unfold duel state in v<
-    duel_inside (suc i) = rw (duel_next v i) (sound.stays (duel v i) (choose (before (duel v) i) (duel v i)) (duel_inside i) (legal (before (duel v) i) (duel v i) (duel_inside i)))
-
-    pub duel_play : Play G v (duel v)
+    pub duel_play : Play G v duel
     duel_play = record {
       starts = unfold duel state in refl;
-      goes = λ i. (choose (before (duel v) i) (duel v i), legal (before (duel v) i) (duel v i) (duel_inside i), duel_next v i);
+      goes = λ i. (choice i, legal (G.owner (duel i)) (before duel i) (duel i) (inside i) refl, duel_next i);
     }
 
--- at most one player has a winning plan
-pub only_one : (G : Game) → Sound G → (x : Player) (hers his : Plan) (v : ℕ) → v < G.count → Winning G x hers v → Winning G (other x) his v → ⊥
-only_one G sound x hers his v v< wx wo =
-    let play = duel_play G x hers his sound v v< wx.legal wo.legal in
-    not_both G x (duel G x hers his v) (wx.wins (duel G x hers his v) play (duel_hers G x hers his v)) (wo.wins (duel G x hers his v) play (duel_his G x hers his v))
+module _ (G : Game) (sound : Sound G) (v : ℕ) (v< : v < G.count) where
+  each_wins : (plans : Player → Plan) → ((x : Player) → Winning G x (plans x) v) → ⊥
+  each_wins plans w =
+      let play = duel_play G plans v sound v< (λ x. (w x).legal) in
+      not_both G Zero (duel G plans v) ((w Zero).wins _ play (duel_follows G plans v Zero)) ((w One).wins _ play (duel_follows G plans v One))
+
+  abbrev each : Plan → Plan → Player → Plan
+  each a b Zero = a
+  each a b One = b
+
+  each_of : (a b : Plan) → Winning G Zero a v → Winning G One b v → (x : Player) → Winning G x (each a b x) v
+  each_of a b w w' Zero = w
+  each_of a b w w' One = w'
+
+  -- at most one player has a winning plan
+  pub only_one : (x : Player) (hers his : Plan) → Winning G x hers v → Winning G (other x) his v → ⊥
+  only_one Zero hers his w w' = each_wins (each hers his) (each_of hers his w w')
+  only_one One hers his w w' = each_wins (each his hers) (each_of his hers w' w)

@@ -1,12 +1,11 @@
 -- The grading of a game is one of its mirror, and its winners are the other ones.
-use Rattle.std.proofs.Common.{◌≡◌, ℕ, ◌%◌, ◌<◌, Bool, true, false, cond, ◌&&◌, eqb, ltb, leb, sym, refl, ap, ◌∙◌, ap₂, inl}
+use Rattle.std.proofs.Common.{◌≡◌, ℕ, ◌%◌, ◌<◌, Bool, true, false, cond, eqb, ltb, sym, refl, ap, ◌∙◌, inl}
 use Rattle.parity.specs.Game.{Game, Sound, favoured}
 use Rattle.parity.specs.declared.player.Player.{Player}
 use Rattle.parity.specs.declared.player.Player.TheVariants.{Zero, One}
 use Rattle.parity.specs.Player.{other, same}
 use Rattle.parity.specs.Grading.{grade, distance, winner}
 use Rattle.parity.specs.Move.{move_by}
-use Rattle.parity.specs.Below.{least}
 use Rattle.parity.specs.Mirror.{mirror, Mirrored}
 use Rattle.parity.proofs.Players.{same_other}
 use Rattle.parity.specs.Certificate.{Fits}
@@ -14,7 +13,7 @@ use Rattle.std.proofs.lemmas.Bool.{cond-true, lt-ltb}
 use Rattle.parity.proofs.Unique.{grade_is, distance_is}
 use Rattle.parity.proofs.Graded.{graded}
 use Rattle.parity.proofs.Moves.{move_same}
-use Rattle.parity.proofs.Transfer.{Alike, Carries, transfer}
+use Rattle.parity.proofs.Transfer.{Alike, same_carries, transfer}
 
 cond_other : (b : Bool) (x y : Player) → cond b (other x) (other y) ≡ other (cond b x y)
 cond_other true x y = refl
@@ -57,9 +56,7 @@ module _ (G : Game) (v : ℕ) (v< : v < G.count) where
 
   mirror_move : (g δ : ℕ → ℕ) → move_by (mirror G) g δ v ≡ move_by G g δ v
   unfolding move_by
-  mirror_move g δ =
-      ap (λ b. cond (b && ltb 0 (δ v)) (least (G.degree v) (λ i. eqb (g (G.successor v i)) (g v) && ltb (δ (G.successor v i)) (δ v))) (least (G.degree v) (λ i. leb (g v) (g (G.successor v i)))))
-      (ap₂ same owner_mirror (favoured_mirror G (g v)) ∙ same_both (G.owner v) (favoured G (g v)))
+  mirror_move g δ = rw (owner_mirror, favoured_mirror G (g v), same_both (G.owner v) (favoured G (g v))) refl
 
 mirror_sound : (G : Game) → Sound G → Sound (mirror G)
 mirror_sound G s = record { moves = s.moves; stays = s.stays }
@@ -72,13 +69,8 @@ mirror_alike G = record {
   back = λ u k u< l. (l, refl);
 }
 
-mirror_carries : (G : Game) (v : ℕ) → Carries G (mirror G) other (λ u. u) v
-mirror_carries G v x π _ _ win i against =
-    let w = win i (same_other _ _ (sym (favoured_mirror G (G.priority (π i))) ∙ against)) in
-    (w.0, w.1, favoured_mirror G (G.priority (π w.0)) ∙ ap other w.2)
-
 mirror_winner : (G : Game) → Sound G → (v : ℕ) → v < G.count → winner (mirror G) v ≡ other (winner G v)
-mirror_winner G s v v< = transfer G (mirror G) s (mirror_sound G s) other (λ u. u) (λ u k. k) (mirror_alike G) v v< (mirror_carries G v)
+mirror_winner G s v v< = transfer s (mirror_sound G s) (mirror_alike G) v v< (same_carries G (mirror G) other (λ u. u) (favoured_mirror G) (λ u u<. refl) v)
 
 pub mirrored : Mirrored
 mirrored G sound v v< =

@@ -1,6 +1,6 @@
 -- The reported moves serve.
-use Rattle.std.proofs.Common.{◌≡◌, ℕ, ◌<◌, ◌≤◌, Bool, true, false, cond, ◌&&◌, eqb, ltb, leb, sym, subst, inl, inr, arith}
-use Rattle.std.proofs.lemmas.Bool.{cases_Bool, cond-true, cond-false, cond_both, both_ways, and_parts, and_from, eqb-true, ltb-true, leb-true, eq-eqb, lt-ltb, le-leb}
+use Rattle.std.proofs.Common.{◌≡◌, ℕ, ◌<◌, ◌≤◌, Bool, true, false, cond, ◌&&◌, eqb, ltb, leb, arith}
+use Rattle.std.proofs.lemmas.Bool.{cond_both, both_ways, and_parts, and_from, eqb-true, ltb-true, leb-true, eq-eqb, lt-ltb, le-leb}
 use Rattle.parity.specs.Game.{Game, Sound, favoured}
 use Rattle.parity.specs.Player.{same}
 use Rattle.parity.specs.Below.{least}
@@ -11,7 +11,7 @@ use Rattle.parity.specs.Certificate.{Fits, Serves}
 
 pub serves : (G : Game) (g δ : ℕ → ℕ) (v : ℕ) → Fits G g δ v → Serves G g δ v (move_by G g δ v)
 unfolding move_by
-serves G g δ v loc = elim (cases_Bool test) [ inl t ↦ subst (Serves G g δ v) (sym (cond-true test (least (G.degree v) near) (least (G.degree v) up) t)) (first t) | inr t ↦ subst (Serves G g δ v) (sym (cond-false test (least (G.degree v) near) (least (G.degree v) up) t)) (second t) ]
+serves G g δ v loc = cond_both test (least (G.degree v) near) (least (G.degree v) up) (Serves G g δ v) first second
   where
     test : Bool
     test = same (G.owner v) (favoured G (g v)) && ltb 0 (δ v)

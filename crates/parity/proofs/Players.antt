@@ -1,5 +1,5 @@
 -- Two players.
-use Rattle.std.proofs.Common.{◌≡◌, true, false, ◌⊎◌, sym, refl, ap, ◌∙◌, subst, inl, inr}
+use Rattle.std.proofs.Common.{◌≡◌, true, false, ◌⊎◌, sym, refl, ap, ◌∙◌, inl, inr}
 use Rattle.parity.specs.Player.{other, same}
 use Rattle.parity.specs.declared.player.Player.{Player}
 use Rattle.parity.specs.declared.player.Player.TheVariants.{Zero, One}
@@ -10,13 +10,9 @@ which Zero One = inr refl
 which One Zero = inr refl
 which One One = inl refl
 
-abbrev first : Player → Type 0
-first Zero = Unit {0}
-first One = ⊥
-
 pub apart : (a : Player) → a ≡ other a → ⊥
-apart Zero e = subst first e tt
-apart One e = subst first (sym e) tt
+apart Zero e = cc
+apart One e = cc
 
 pub twice : (a : Player) → other (other a) ≡ a
 twice Zero = refl

@@ -1,13 +1,17 @@
 -- One round of the grading: what pulls a vertex in.
-use Rattle.std.proofs.Common.{◌≡◌, ℕ, ◌<◌, Bool, true, false, cond, not, ◌||◌, ◌⊎◌, Decides, sym, refl, inl, inr}
+use Rattle.std.proofs.Common.{◌≡◌, ℕ, suc, ◌<◌, ◌≤◌, Bool, true, false, cond, not, ◌⊎◌, Decides, sym, refl, inl, inr}
 use Rattle.std.proofs.lemmas.Bool.{both_ways, not-true, not_from_false}
-use Rattle.std.proofs.lemmas.Bool.Decides.{Decides-or, Decides-not}
+use Rattle.std.proofs.lemmas.Bool.Decides.{Decides-and, Decides-or, Decides-not}
 use Rattle.parity.specs.Game.{Game, Sound, favoured}
+use Rattle.parity.specs.Grading.{within}
 use Rattle.parity.specs.Player.{other, same}
-use Rattle.parity.specs.Below.{some_below, all_below}
 use Rattle.parity.proofs.Players.{same_true, same_false, true_same, false_same}
 use Rattle.parity.proofs.Below.{some_decides, all_decides}
 use Rattle.parity.specs.declared.player.Player.{Player}
+
+-- of grade p, at a distance of at most d
+abbrev pub Near : (ℕ → ℕ) → (ℕ → ℕ) → ℕ → ℕ → ℕ → Type 0
+Near g δ p d u = (g u ≡ p) × (δ u ≤ d)
 
 -- towards p, from the vertices Hit, where the others that count are In
 abbrev pub Pull : Game → ℕ → (ℕ → Type 0) → (ℕ → Type 0) → ℕ → Type 0
@@ -29,12 +33,14 @@ same_decides a b = (same_true a b, true_same a b)
 pub differ_decides : (a b : Player) → Decides (not (same a b)) (a ≡ other b)
 differ_decides a b = (λ e. same_false a b (not-true (same a b) e), λ e. not_from_false (same a b) (false_same a b e))
 
-module _ (G : Game) (sound : Sound G) (R hit : ℕ → Bool) (p : ℕ) (In Hit : ℕ → Type 0) (in_r : (v : ℕ) → v < G.count → Decides (R v) (In v)) (ih : (v : ℕ) → v < G.count → Decides (hit v) (Hit v)) where
-  pub pull_decides : (v : ℕ) → v < G.count →
-      Decides (cond (same (G.owner v) (favoured G p))
-      (some_below (G.degree v) (λ i. hit (G.successor v i)))
-      (all_below (G.degree v) (λ i. not (R (G.successor v i)) || hit (G.successor v i)))) (Pull G p In Hit v)
-  pull_decides v v< =
-      cond_decides (same (G.owner v) (favoured G p)) _ _ (same_decides _ _) (differ_decides _ _)
-      (some_decides (G.degree v) _ _ (λ i i<. ih (G.successor v i) (sound.stays v i v< i<)))
-      (all_decides (G.degree v) _ _ (λ i i<. Decides-or _ _ (Decides-not _ (in_r (G.successor v i) (sound.stays v i v< i<))) (ih (G.successor v i) (sound.stays v i v< i<))))
+-- where In says what R tests, and Hit what a distance of at most d does, a distance of at most d + 1
+pub next_decides : (G : Game) → Sound G → (R : ℕ → Bool) (p : ℕ) (In Hit : ℕ → Type 0) → ((v : ℕ) → v < G.count → Decides (R v) (In v)) →
+    (d : ℕ) → ((v : ℕ) → v < G.count → Decides (within G R p d v) (Hit v)) →
+    (v : ℕ) → v < G.count → Decides (within G R p (suc d) v) (Hit v ⊎ (In v × Pull G p In Hit v))
+unfolding within
+next_decides G sound R p In Hit in_r d ih v v< =
+    Decides-or _ _ (ih v v<)
+    (Decides-and _ _ (in_r v v<)
+    (cond_decides (same (G.owner v) (favoured G p)) _ _ (same_decides _ _) (differ_decides _ _)
+    (some_decides (G.degree v) _ _ (λ i i<. ih (G.successor v i) (sound.stays v i v< i<)))
+    (all_decides (G.degree v) _ _ (λ i i<. let s = sound.stays v i v< i< in Decides-or _ _ (Decides-not _ (in_r _ s)) (ih _ s)))))

@@ -1,12 +1,11 @@
 -- The rounds of one grade come to rest within as many as there are vertices.
 use Rattle.std.proofs.Common.{◌≡◌, ℕ, zero, suc, ◌<◌, ◌≤◌, Bool, true, false, not, ◌&&◌, ◌⊎◌, Decides, refl, subst, inl, inr, eq-or-lt_of_le, arith}
 use Rattle.std.proofs.lemmas.Bool.{cases_Bool, and_parts, not-true, both_ways}
-use Rattle.std.proofs.lemmas.Bool.Decides.{Decides-and, Decides-or}
 use Rattle.parity.specs.Game.{Game, Sound}
 use Rattle.parity.specs.Grading.{within}
 use Rattle.parity.specs.Below.{some_below}
-use Rattle.parity.proofs.Below.{some_gives, some_from}
-use Rattle.parity.proofs.Pull.{Pull, pull_map, pull_decides}
+use Rattle.parity.proofs.Below.{itself, some_gives, some_from}
+use Rattle.parity.proofs.Pull.{Pull, pull_map, next_decides}
 use Rattle.parity.proofs.Size.{size, size_more, size_full}
 
 module _ (G : Game) (sound : Sound G) (R : ℕ → Bool) (p : ℕ) where
@@ -16,14 +15,8 @@ module _ (G : Game) (sound : Sound G) (R : ℕ → Bool) (p : ℕ) where
   abbrev In : ℕ → Type 0
   In u = R u ≡ true
 
-  abbrev itself : (b : Bool) → Decides b (b ≡ true)
-  itself b = (λ e. e, λ e. e)
-
   pub next : (d v : ℕ) → v < G.count → Decides (within G R p (suc d) v) (Hit d v ⊎ (In v × Pull G p In (Hit d) v))
-  unfolding within
-  next d v v< =
-      Decides-or (within G R p d v) _ (itself (within G R p d v))
-      (Decides-and (R v) _ (itself (R v)) (pull_decides G sound R (within G R p d) p In (Hit d) (λ u _. itself (R u)) (λ u _. itself (within G R p d u)) v v<))
+  next d = next_decides G sound R p In (Hit d) (λ u _. itself (R u)) d (λ u _. itself (within G R p d u))
 
   pub more : (d e v : ℕ) → v < G.count → d ≤ e → Hit d v → Hit e v
   more d zero v v< le h = subst (λ k. Hit k v) (omega arith) h
@@ -37,9 +30,6 @@ module _ (G : Game) (sound : Sound G) (R : ℕ → Bool) (p : ℕ) where
 
   abbrev Stable : ℕ → Type 0
   Stable e = (v : ℕ) → v < G.count → Hit (suc e) v → Hit e v
-
-  on : (e : ℕ) → Stable e → Stable (suc e)
-  on e st v v< h = elim ((next (suc e) v v<).0 h) [ inl h' ↦ h' | inr s ↦ (next e v v<).1 (inr (s.0, pull_map G sound p In (Hit (suc e)) (Hit e) st v v< s.1)) ]
 
   rests : (e : ℕ) → Stable e → (d v : ℕ) → v < G.count → Hit d v → Hit e v
   rests e st zero v v< h = more 0 e v v< (omega arith) h

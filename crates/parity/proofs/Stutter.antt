@@ -29,32 +29,21 @@ module _ (G : Game) (sound : Sound G) (g δ m : ℕ → ℕ) (table : Certificat
   Step u u' = (j : ℕ) × (j < G.degree u) × (u' ≡ G.successor u j) × (G.owner u ≡ x → u' ≡ G.successor u (m u))
 
   falls : (u u' : ℕ) → u < G.count → Step u u' → g u' < g u → favoured G (g u') ≡ x
-  falls u u' u< s h = elim (which (G.owner u) x) [ inl own ↦ absurd (stuck own) | inr not_own ↦ drop not_own ]
-    where
-      stuck : G.owner u ≡ x → ⊥
-      stuck own =
-          let up : g u ≤ g u' = subst (λ w. g u ≤ g w) (sym (s.3 own)) (serves u u<).holds in
-          omega arith
-
-      drop : G.owner u ≡ other x → favoured G (g u') ≡ x
-      drop not_own =
-          let less : g (G.successor u s.0) < g u = subst (λ w. g w < g u) s.2 h in
-          let o = (table u u<).lower s.0 s.1 less in
-          same_other _ _ (ap (λ w. other (favoured G (g w))) s.2 ∙ sym o ∙ not_own)
+  falls u u' u< s h = elim (which (G.owner u) x) [
+    | inl own ↦ absurd (let up : g u ≤ g u' = subst (λ w. g u ≤ g w) (sym (s.3 own)) (serves u u<).holds in omega arith)
+    | inr not_own ↦
+        (let o = (table u u<).lower s.0 s.1 (subst (λ w. g w < g u) s.2 h) in
+        same_other _ _ (ap (λ w. other (favoured G (g w))) s.2 ∙ sym o ∙ not_own))
+  ]
 
   nearer : (u u' : ℕ) → u < G.count → Step u u' → favoured G (g u) ≡ x → 0 < δ u → g u ≤ g u' → (g u' ≡ g u) × (δ u' < δ u)
-  nearer u u' u< s f pos up = elim (which (G.owner u) x) [ inl own ↦ by_move own | inr not_own ↦ by_any not_own ]
+  nearer u u' u< s f pos up = elim (which (G.owner u) x) [
+    | inl own ↦ subst Nearer (sym (s.3 own)) ((serves u u<).nears (own ∙ sym f) pos)
+    | inr not_own ↦ subst Nearer (sym s.2) ((table u u<).theirs (not_own ∙ sym (ap other f)) pos s.0 s.1 (subst (λ w. g u ≤ g w) s.2 up))
+  ]
     where
-      Goal : ℕ → Type 0
-      Goal w = (g w ≡ g u) × (δ w < δ u)
-
-      by_move : G.owner u ≡ x → (g u' ≡ g u) × (δ u' < δ u)
-      by_move own = subst Goal (sym (s.3 own)) ((serves u u<).nears (own ∙ sym f) pos)
-
-      by_any : G.owner u ≡ other x → (g u' ≡ g u) × (δ u' < δ u)
-      by_any not_own =
-          let up' : g u ≤ g (G.successor u s.0) = subst (λ w. g u ≤ g w) s.2 up in
-          subst Goal (sym s.2) ((table u u<).theirs (not_own ∙ sym (ap other f)) pos s.0 s.1 up')
+      Nearer : ℕ → Type 0
+      Nearer w = (g w ≡ g u) × (δ w < δ u)
 
   abbrev Met : ℕ → Type 0
   Met b = (k : ℕ) × (G.priority (π k) ≤ b) × (favoured G (G.priority (π k)) ≡ x)
@@ -73,32 +62,16 @@ module _ (G : Game) (sound : Sound G) (g δ m : ℕ → ℕ) (table : Certificat
   Reaches₃ a d w = (j : ℕ) → wait j < w → δ (π j) < d → g (π j) < a → favoured G (g (π j)) ≡ x → Met (g (π j))
 
   closer : (a d w : ℕ) → Reaches a → Reaches₂ (suc a) d → Reaches₃ (suc a) (suc d) w → Reaches₃ (suc a) (suc d) (suc w)
-  closer a d w smaller again later j hw h ha f = elim (eq-zero-or-pos (δ (π j))) [ inl none ↦ at none | inr pos ↦ on pos ]
-    where
-      at : δ (π j) ≡ 0 → Met (g (π j))
-      at none =
-          let e = (table (π j) (inside j)).base none in
-          (j, omega arith, ap (favoured G) (sym e) ∙ f)
-
-      on : 0 < δ (π j) → Met (g (π j))
-      on pos = elim (play.goes j) [ inl s ↦ stays s.0 s.1 | inr s ↦ steps s ]
-        where
-          stays : π (suc j) ≡ π j → wait (suc j) < wait j → Met (g (π j))
-          stays e l =
-              let eg = ap g e in
-              let eδ = ap δ e in
-              met_up (omega arith) (later (suc j) (omega arith) (omega arith) (omega arith) (ap (favoured G) eg ∙ f))
-
-          steps : Step (π j) (π (suc j)) → Met (g (π j))
-          steps s = elim (cases_lt (g (π (suc j))) (g (π j))) [ inl less ↦ down less | inr up ↦ same_grade up ]
-            where
-              down : g (π (suc j)) < g (π j) → Met (g (π j))
-              down less = met_up (omega arith) (smaller (suc j) (omega arith) (falls (π j) (π (suc j)) (inside j) s less))
-
-              same_grade : g (π j) ≤ g (π (suc j)) → Met (g (π j))
-              same_grade up =
-                  let n = nearer (π j) (π (suc j)) (inside j) s f pos up in
-                  met_up (omega arith) (again (suc j) (omega arith) (omega arith) (ap (favoured G) n.0 ∙ f))
+  closer a d w smaller again later j hw h ha f = elim (eq-zero-or-pos (δ (π j))) [
+    | inl none ↦ (let e = (table (π j) (inside j)).base none in (j, omega arith, ap (favoured G) (sym e) ∙ f))
+    | inr pos ↦ elim (play.goes j) [
+      | inl s ↦ (let eg = ap g s.0 in let eδ = ap δ s.0 in met_up (omega arith) (later (suc j) (omega (arith, s.1)) (omega arith) (omega arith) (ap (favoured G) eg ∙ f)))
+      | inr s ↦ elim (cases_lt (g (π (suc j))) (g (π j))) [
+        | inl less ↦ met_up (omega arith) (smaller (suc j) (omega arith) (falls (π j) (π (suc j)) (inside j) s less))
+        | inr up ↦ (let n = nearer (π j) (π (suc j)) (inside j) s f pos up in met_up (omega arith) (again (suc j) (omega (arith, n.1)) (omega (arith, n.0)) (ap (favoured G) n.0 ∙ f)))
+      ]
+    ]
+  ]
 
   reach₃ : (a d : ℕ) → Reaches a → Reaches₂ (suc a) d → (w : ℕ) → Reaches₃ (suc a) (suc d) w
   reach₃ a d smaller again zero = λ j l _ _ _. absurd (omega arith)

@@ -18,11 +18,13 @@ impl Player {
             Player::One => Player::Zero,
         }
     }
+}
 
-    // 0 or 1.
-    pub fn number(self) -> u8
-        ensures { result ≡ numeral self }
-    {
-        self as u8
+// 0 or 1.
+impl From<Player> for u8 {
+    ghost from_gives = { λ a r. r ≡ numeral a };
+
+    fn from(player: Player) -> u8 {
+        player as u8
     }
 }

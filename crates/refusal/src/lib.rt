@@ -51,17 +51,19 @@ pub enum Refusal {
     VertexTarget = 20,
 }
 
-impl Refusal {
-    // The number under which the refusal is reported.
-    pub fn number(self) -> u8
-        ensures { result ≡ number_of self }
-    {
-        self as u8
-    }
+// The number under which the refusal is reported.
+impl From<Refusal> for u8 {
+    ghost from_gives = { λ a r. r ≡ number_of a };
 
-    // What was wrong, in words.
-    fn words(self) -> &'static str {
-        match self {
+    fn from(refusal: Refusal) -> u8 {
+        refusal as u8
+    }
+}
+
+// What was wrong, in words.
+impl fmt::Display for Refusal {
+    fn fmt<W: fmt::Write>(&self, f: &mut fmt::Formatter<W>) -> fmt::Result {
+        f.write_str(match *self {
             Refusal::Letters => "the letters are not 1 to 16",
             Refusal::Priority => "the priority is above 999",
             Refusal::States => "there are 32 states already",
@@ -82,12 +84,6 @@ impl Refusal {
             Refusal::VertexOwner => "byte 0 is above 1 or byte 1 is not zero",
             Refusal::VertexPriority => "the priority is above 9999",
             Refusal::VertexTarget => "a target is not below the number of vertices",
-        }
-    }
-}
-
-impl fmt::Display for Refusal {
-    fn fmt<W: fmt::Write>(&self, f: &mut fmt::Formatter<W>) -> fmt::Result {
-        f.write_str(self.words())
+        })
     }
 }

@@ -1,8 +1,9 @@
 // The answers of a stored arena.
+ghost use Rattle.std.specs.Prelude.{◌/◌, length};
 ghost use Rattle.arena.specs.Stored.{stored_game, record_number};
-ghost use Rattle.arena.specs.StoredBounds.{stored_bounds, stored_elsewhere};
+ghost use Rattle.arena.specs.StoredBounds.{bounds_asked, stored_elsewhere};
 
-use super::maker::word_at;
+use super::record::record_at;
 use super::{RecordNumber, Stored};
 use crate::Arena;
 use parity::Player;
@@ -10,16 +11,16 @@ use parity::Player;
 impl Arena for Stored<'_> {
     type Place = RecordNumber;
 
-    ghost meaning = { λ s. stored_game s.bytes.now s.count };
+    ghost meaning = { λ s. stored_game s.bytes.now (length s.bytes.now / 8) };
 
-    ghost places = { λ s v. record_number s.count v };
+    ghost places = { λ s v. record_number (length s.bytes.now / 8) v };
 
-    ghost bounds = { λ s. stored_bounds s.bytes.now s.count s.each s.some s.few };
+    ghost bounds = { λ s. bounds_asked s.bytes.now s.passed };
 
-    ghost elsewhere = { λ s v h. stored_elsewhere s.count v h };
+    ghost elsewhere = { λ s v h. stored_elsewhere (length s.bytes.now / 8) v h };
 
     fn count(&self) -> usize {
-        self.count
+        self.bytes.len() / 8
     }
 
     fn even_side(&self) -> Player {
@@ -27,36 +28,31 @@ impl Arena for Stored<'_> {
     }
 
     fn owner(&self, v: usize) -> Player {
-        if v < self.count && self.bytes[8 * v] != 0 {
-            Player::One
-        } else {
-            Player::Zero
+        match record_at(self.bytes, v) {
+            Some(record) if record.owner != 0 => Player::One,
+            _ => Player::Zero,
         }
     }
 
     fn priority(&self, v: usize) -> u16 {
-        if v < self.count {
-            word_at(self.bytes, 8 * v + 2)
-        } else {
-            0
-        }
+        record_at(self.bytes, v).map_or(0, |record| record.priority)
     }
 
     fn degree(&self, v: usize) -> usize {
-        if v < self.count { 2 } else { 0 }
+        if v < self.count() { 2 } else { 0 }
     }
 
     fn successor(&self, v: usize, i: usize) -> usize {
-        if v < self.count && i < 2 {
-            word_at(self.bytes, 8 * v + 4 + 2 * i) as usize
-        } else {
-            0
+        match (record_at(self.bytes, v), i) {
+            (Some(record), 0) => usize::from(record.targets[0]),
+            (Some(record), 1) => usize::from(record.targets[1]),
+            _ => 0,
         }
     }
 
     fn place(&self, v: usize) -> RecordNumber {
         RecordNumber {
-            number: if v < self.count { v } else { 0 },
+            number: if v < self.count() { v } else { 0 },
         }
     }
 }

@@ -1,4 +1,4 @@
-// The ring as an arena.
+// The ring as an arena. It shares nothing with the arenas of the library, as a buyer's would not.
 ghost use Rattle.ring_example.specs.Ring.{ring_game, station};
 ghost use Rattle.ring_example.specs.RingBounds.{ring_bounds, ring_elsewhere};
 ghost use Rattle.ring_example.specs.Made.{ring_of};
@@ -56,14 +56,10 @@ impl Arena for Ring {
     }
 
     fn successor(&self, v: usize, i: usize) -> usize {
-        if v >= self.stations {
-            0
-        } else if i == 0 {
-            if v + 1 < self.stations { v + 1 } else { 0 }
-        } else if i == 1 {
-            v
-        } else {
-            0
+        match (v < self.stations, i) {
+            (true, 0) if v + 1 < self.stations => v + 1,
+            (true, 1) => v,
+            _ => 0,
         }
     }
 

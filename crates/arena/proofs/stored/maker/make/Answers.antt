@@ -1,7 +1,5 @@
-use Rattle.arena.proofs.Faults.{passed}
+use Rattle.arena.specs.Passed.{whole_yes}
 use Rattle.arena.proofs.stored.maker.make.Goals as goal
 
 pub invariant_of-result : goal.invariant_of-result
-invariant_of-result c =
-    let p = passed c.args.bytes.now c.args.count c.requires in
-    record { whole = p.whole; some = p.some; few = p.few; each = p.each }
+invariant_of-result c = record { passed = whole_yes c.args.bytes.now c.requires }

@@ -1,6 +1,6 @@
 -- What a turned automaton has in common with the automaton.
-use Rattle.std.proofs.Common.{◌≡◌, ℕ, ◌+◌, ◌<◌, map, get_or, is_some, None, sym, ap, ◌∙◌, inl, inr, arith}
-use Rattle.std.proofs.lemmas.Bool.{cases_lt}
+use Rattle.std.proofs.Common.{◌≡◌, ℕ, ◌+◌, ◌<◌, map, get_or, is_some, ap, arith}
+use Rattle.std.proofs.Math.ListN as default
 use Rattle.std.proofs.lemmas.List.{length-map, get_or-map, get_or_past}
 use Rattle.parity.specs.Below.{all_below}
 use Rattle.draft.specs.declared.parts.Node.TheVariants.{Leaf}
@@ -14,25 +14,17 @@ module _ (a : Automaton) where
   pub nodes_same : node_count (turned a) ≡ node_count a
   nodes_same = length-map a.nodes dual
 
-  state_raised : (q : ℕ) → q < state_count a → get_or (map raised a.states) q blank ≡ raised (get_or a.states q blank)
+  pub state_raised : (q : ℕ) → q < state_count a → get_or (map raised a.states) q blank ≡ raised (get_or a.states q blank)
   state_raised q l = get_or-map raised a.states q blank blank l
 
   pub priority_raised : (q : ℕ) → q < state_count a → priority_of (turned a) q ≡ priority_of a q + 1
   priority_raised q q< = ap (λ s. s.priority) (state_raised q q<)
 
   pub rule_same : (q letter : ℕ) → rule_of (turned a) q letter ≡ rule_of a q letter
-  rule_same q letter =
-      elim (cases_lt q (state_count a)) [
-        | inl h ↦ ap (λ s. get_or s.rules letter None) (state_raised q h)
-        | inr h ↦ (let e = states_same in ap (λ s. get_or s.rules letter None) (get_or_past (map raised a.states) q blank (omega arith) ∙ sym (get_or_past a.states q blank h)))
-      ]
+  rule_same q letter = grind (arith, states_same, state_raised, get_or_past)
 
   pub node_dual : (x : ℕ) → node_of (turned a) x ≡ dual (node_of a x)
-  node_dual x =
-      elim (cases_lt x (node_count a)) [
-        | inl l ↦ get_or-map dual a.nodes x (Leaf 0) (Leaf 0) l
-        | inr l ↦ (let e = nodes_same in get_or_past (map dual a.nodes) x (Leaf 0) (omega arith) ∙ sym (ap dual (get_or_past a.nodes x (Leaf 0) l)))
-      ]
+  node_dual x = default.get_or-map dual a.nodes x (Leaf 0)
 
   pub complete_same : is_complete (turned a) ≡ is_complete a
   unfolding is_complete is_ruled

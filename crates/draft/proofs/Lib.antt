@@ -1,10 +1,8 @@
 -- The lemmas about drafts.
-pub mod Places
 pub mod Keeps
 pub mod Drafts
 pub mod NoRule
 pub mod AllBelow
-pub mod Turns
 pub mod InPlace
 pub mod Children
 pub mod Folds
@@ -12,7 +10,6 @@ pub mod Histories
 pub mod Dual
 pub mod TurnLaws
 pub mod Puts
-pub mod WrittenParts
 pub mod Encodes
 pub mod Runs
 pub mod Heeds

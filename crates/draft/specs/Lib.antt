@@ -4,6 +4,7 @@ pub mod Calls
 pub mod WellFormed
 pub mod Records
 pub mod Layers
+pub mod Kinds
 pub mod Load
 pub mod History
 pub mod TurnLaws

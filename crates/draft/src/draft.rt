@@ -4,15 +4,19 @@ ghost use Rattle.draft.specs.WellFormed.{Low, Full, Lettered, Named, LeavesKnown
 
 use crate::parts::{Node, State};
 
-pub(crate) mod begins;
+mod begins;
+pub(crate) mod letters;
 mod nodes;
+mod numbers;
 mod priorities;
 mod rules;
 mod sizes;
 mod writing;
 
 // An automaton under construction. The room for all states and nodes is reserved when the draft is made, so
-// that no later call can want memory.
+// that no later call can want memory. Files and calls name states and nodes by number, and nodes are shared, so
+// they stand in lists. What contracts see of a draft is a function of its fields (specs/Meaning): a model would hide from the crates above
+// what every draft keeps.
 #[derive(Drop)]
 pub struct Draft {
     letters: u8,

@@ -15,16 +15,17 @@ pub enum Layer {
     Draft = 3,
 }
 
-impl Layer {
-    // The number under which the layer is reported.
-    pub fn number(self) -> u8
-        ensures { result ≡ layer_number self }
-    {
-        self as u8
+// The number under which the layer is reported.
+impl From<Layer> for u8 {
+    ghost from_gives = { λ a r. r ≡ layer_number a };
+
+    fn from(layer: Layer) -> u8 {
+        layer as u8
     }
 }
 
-// A refusal, with the place of its record, counted from 0, and the layer that refused.
+// A refusal, with the place of its record, counted from 0, and the layer that refused. A fault of the file as a whole
+// has the place 0, as load_file defines it.
 #[derive(Clone, Copy, PartialEq, Debug)]
 pub struct LoadFault {
     pub refusal: Refusal,

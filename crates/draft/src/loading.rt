@@ -1,16 +1,16 @@
 // Loads a draft from the records of a file.
 ghost use Rattle.std.specs.Prelude.{◌≡◌};
-ghost use Rattle.draft.specs.Load.{fault, load_file, take_record, with_place};
+ghost use Rattle.draft.specs.Load.{fault, load_file, take_record};
 ghost use Rattle.draft.specs.Meaning.{meaning};
 ghost use Rattle.draft.specs.declared.fault.Layer.TheVariants.{Draft as ByDraft, File as ByFile};
 
 use crate::draft::Draft;
-use crate::draft::begins::letters_fit;
+use crate::draft::letters::Letters;
 use crate::fault::{Layer, LoadFault};
 use crate::records::{decode, make};
 use refusal::Refusal;
 
-// A draft's refusal of the record at a place.
+// A draft's refusal of the record at a place. It becomes the load's fault by `From` and the question mark, a rule of the project.
 #[derive(Clone, Copy)]
 pub struct Placed {
     refusal: Refusal,
@@ -31,24 +31,22 @@ impl From<Placed> for LoadFault {
 
 // Begins the draft with the given letters, and takes the records in order, each as the call that it names. A fault
 // of the file leaves the draft as it was; a later fault leaves it with the records before the faulty one.
+#[tactic(auto, using(crate::proofs::Folds::record_steps))]
 pub fn load(draft: &mut Draft, letters: u32, bytes: &[u8]) -> Result<(), LoadFault>
     ensures { (result, meaning draft.new) ≡ load_file (meaning draft.old) letters bytes.now }
 {
-    if !letters_fit(letters) {
-        return Err(of_file(Refusal::Letters));
-    }
-    if bytes.len() % 8 != 0 {
+    let letters = Letters::try_from(letters).map_err(of_file)?;
+    let (records, []) = bytes.as_chunks::<8>() else {
         return Err(of_file(Refusal::Length));
-    }
-    draft.restart(letters as u8);
-    let (records, _) = bytes.as_chunks::<8>();
-    for (i, record) in records.iter().enumerate() {
-        take(draft, i, record)?;
+    };
+    draft.restart(letters);
+    for (place, record) in records.iter().enumerate() {
+        take(draft, place, record)?;
     }
     Ok(())
 }
 
-// A fault of the file as a whole.
+// A fault of the file as a whole, whose place is 0 by definition. A `From` of a refusal could be a fault of a record too.
 fn of_file(refusal: Refusal) -> LoadFault
     ensures { result ≡ fault ByFile 0 refusal }
 {
@@ -63,26 +61,11 @@ fn of_file(refusal: Refusal) -> LoadFault
 fn take(draft: &mut Draft, place: usize, record: &[u8; 8]) -> Result<(), LoadFault>
     ensures { (result, meaning draft.new) ≡ take_record (meaning draft.old) place «record».now }
 {
-    let call = match decode(record) {
-        Ok(call) => call,
-        Err(refusal) => {
-            return Err(LoadFault {
-                refusal,
-                place,
-                layer: Layer::Record,
-            });
-        }
-    };
-    at(make(draft, call), place)?;
+    let call = decode(record).map_err(|refusal| LoadFault {
+        refusal,
+        place,
+        layer: Layer::Record,
+    })?;
+    make(draft, call).map_err(|refusal| Placed { refusal, place })?;
     Ok(())
-}
-
-// A draft's answer to the record at a place.
-fn at(answer: Result<(), Refusal>, place: usize) -> Result<(), Placed>
-    ensures { result ≡ with_place place answer }
-{
-    match answer {
-        Ok(()) => Ok(()),
-        Err(refusal) => Err(Placed { refusal, place }),
-    }
 }

@@ -1,15 +1,16 @@
 // The 8-byte records of a draft file, and the calls that they name.
-ghost use Rattle.std.specs.Prelude.{◌≡◌, ◌+◌, ◌*◌, cond, Ok, Err};
-ghost use Rattle.refusal.specs.declared.Refusal.TheVariants.{RecordUnused};
+ghost use Rattle.std.specs.Prelude.{◌≡◌};
+ghost use Rattle.draft.specs.Kinds.{kind_number};
 ghost use Rattle.draft.specs.Meaning.{meaning};
-ghost use Rattle.draft.specs.Records.{decoded, called, unnumbered};
+ghost use Rattle.draft.specs.Records.{decoded, called};
 ghost use Rattle.draft.specs.Written.{encoded, record_bytes};
 
 use crate::draft::Draft;
+use crate::kind::Kind;
 use refusal::Refusal;
 
 // A call on a draft, with its numbers.
-#[derive(Clone, Copy)]
+#[derive(Clone, Copy, PartialEq, Eq, Debug)]
 pub enum Call {
     // priority
     State(u16),
@@ -27,44 +28,22 @@ pub enum Call {
 }
 
 // The call that a record names: byte 0 is the call, byte 1 a rule's letter, bytes 2 and 3 the first number and
-// bytes 4 and 5 the second, low byte first.
+// bytes 4 and 5 the second, low byte first. Bytes that the call does not use are zero.
 pub(crate) fn decode(record: &[u8; 8]) -> Result<Call, Refusal>
     ensures { result ≡ decoded «record».now }
 {
-    let letter = record[1];
-    let first = number(record[2], record[3]);
-    let second = number(record[4], record[5]);
-    let no_letter = letter == 0;
-    let no_first = record[2] == 0 && record[3] == 0;
-    let no_second = record[4] == 0 && record[5] == 0;
-    let no_rest = record[6] == 0 && record[7] == 0;
-    match record[0] {
-        1 => only_if(no_letter && no_second && no_rest, Call::State(first)),
-        2 => only_if(no_letter && no_second && no_rest, Call::Leaf(first)),
-        3 => only_if(no_letter && no_rest, Call::Either(first, second)),
-        4 => only_if(no_letter && no_rest, Call::Both(first, second)),
-        5 => only_if(no_rest, Call::Rule(first, letter, second)),
-        6 => only_if(no_letter && no_rest, Call::Regrade(first, second)),
-        7 => only_if(no_letter && no_first && no_second && no_rest, Call::Turn),
-        _ => Err(Refusal::RecordKind),
-    }
-}
-
-// The number of two bytes.
-fn number(low: u8, high: u8) -> u16
-    ensures { result ≡ low + 256 * high }
-{
-    u16::from(low) + 256 * u16::from(high)
-}
-
-// The call, if the bytes that it does not use are zero.
-fn only_if(unused_zero: bool, call: Call) -> Result<Call, Refusal>
-    ensures { result ≡ cond unused_zero (Ok call) (Err RecordUnused) }
-{
-    if unused_zero {
-        Ok(call)
-    } else {
-        Err(Refusal::RecordUnused)
+    let first = u16::from_le_bytes([record[2], record[3]]);
+    let second = u16::from_le_bytes([record[4], record[5]]);
+    let rest = u16::from_le_bytes([record[6], record[7]]);
+    match (Kind::try_from(record[0])?, record[1], first, second, rest) {
+        (Kind::State, 0, priority, 0, 0) => Ok(Call::State(priority)),
+        (Kind::Leaf, 0, state, 0, 0) => Ok(Call::Leaf(state)),
+        (Kind::Either, 0, left, right, 0) => Ok(Call::Either(left, right)),
+        (Kind::Both, 0, left, right, 0) => Ok(Call::Both(left, right)),
+        (Kind::Rule, letter, state, node, 0) => Ok(Call::Rule(state, letter, node)),
+        (Kind::Regrade, 0, state, priority, 0) => Ok(Call::Regrade(state, priority)),
+        (Kind::Turn, 0, 0, 0, 0) => Ok(Call::Turn),
+        _ => Err(Refusal::RecordUnused),
     }
 }
 
@@ -73,27 +52,29 @@ pub(crate) fn encode(call: Call) -> [u8; 8]
     ensures { result ≡ encoded call }
 {
     match call {
-        Call::State(priority) => record_of(1, 0, priority, 0),
-        Call::Leaf(state) => record_of(2, 0, state, 0),
-        Call::Either(left, right) => record_of(3, 0, left, right),
-        Call::Both(left, right) => record_of(4, 0, left, right),
-        Call::Rule(state, letter, node) => record_of(5, letter, state, node),
-        Call::Regrade(state, priority) => record_of(6, 0, state, priority),
-        Call::Turn => record_of(7, 0, 0, 0),
+        Call::State(priority) => record_of(Kind::State, 0, priority, 0),
+        Call::Leaf(state) => record_of(Kind::Leaf, 0, state, 0),
+        Call::Either(left, right) => record_of(Kind::Either, 0, left, right),
+        Call::Both(left, right) => record_of(Kind::Both, 0, left, right),
+        Call::Rule(state, letter, node) => record_of(Kind::Rule, letter, state, node),
+        Call::Regrade(state, priority) => record_of(Kind::Regrade, 0, state, priority),
+        Call::Turn => record_of(Kind::Turn, 0, 0, 0),
     }
 }
 
 // The record with these parts.
-fn record_of(kind: u8, letter: u8, first: u16, second: u16) -> [u8; 8]
-    ensures { result ≡ record_bytes kind letter first second }
+fn record_of(kind: Kind, letter: u8, first: u16, second: u16) -> [u8; 8]
+    ensures { result ≡ record_bytes (kind_number kind) letter first second }
 {
+    let [first_low, first_high] = first.to_le_bytes();
+    let [second_low, second_high] = second.to_le_bytes();
     [
-        kind,
+        u8::from(kind),
         letter,
-        (first % 256) as u8,
-        (first / 256) as u8,
-        (second % 256) as u8,
-        (second / 256) as u8,
+        first_low,
+        first_high,
+        second_low,
+        second_high,
         0,
         0,
     ]
@@ -104,22 +85,12 @@ pub(crate) fn make(draft: &mut Draft, call: Call) -> Result<(), Refusal>
     ensures { (result, meaning draft.new) ≡ called (meaning draft.old) call }
 {
     match call {
-        Call::State(priority) => without_number(draft.state(priority)),
-        Call::Leaf(state) => without_number(draft.leaf(state)),
-        Call::Either(left, right) => without_number(draft.either(left, right)),
-        Call::Both(left, right) => without_number(draft.both(left, right)),
+        Call::State(priority) => draft.state(priority).map(|_| ()),
+        Call::Leaf(state) => draft.leaf(state).map(|_| ()),
+        Call::Either(left, right) => draft.either(left, right).map(|_| ()),
+        Call::Both(left, right) => draft.both(left, right).map(|_| ()),
         Call::Rule(state, letter, node) => draft.rule(state, letter, node),
         Call::Regrade(state, priority) => draft.regrade(state, priority),
         Call::Turn => draft.turn(),
-    }
-}
-
-// An answer without the new number.
-fn without_number(answer: Result<u8, Refusal>) -> Result<(), Refusal>
-    ensures { result ≡ unnumbered answer }
-{
-    match answer {
-        Ok(_) => Ok(()),
-        Err(refusal) => Err(refusal),
     }
 }

@@ -6,12 +6,11 @@ use Rattle.draft.specs.WellFormed.{WellFormed}
 use Rattle.runs.specs.Models.{States, In, Model, Minimal}
 use Rattle.runs.specs.Run.{rule_node, LeastEven, Accepts}
 use Rattle.runs.specs.Word.{letter, Readable}
-use Rattle.runs.specs.WordGame.{word_moves}
 use Rattle.runs.proofs.Formed.{formed}
 use Rattle.runs.proofs.RunWins.{models-win}
-use Rattle.runs.proofs.Sets.{grows, without, minus, minus_sub, minus_not, minus_from}
+use Rattle.runs.proofs.Sets.{without, minus, minus_sub, minus_not}
 use Rattle.runs.proofs.WinRuns.{win_runs}
-use Rattle.runs.proofs.WordGames.{st, nd, word_arena}
+use Rattle.runs.proofs.WordGames.{word_arena}
 
 pub record AnyMinimal (a : Automaton) (M : ℕ → Type 0) (x : ℕ) : Type 1 where
   pub model : Model a M x
@@ -33,11 +32,10 @@ pub record AcceptsByAny (a : Automaton) (word : ℕ → ℕ) (start : ℕ) : Typ
 
 -- a set that is minimal among the decidable ones is minimal among all: a model has finitely many leaves
 minimal_of_all : (a : Automaton) (M : States) (x : ℕ) → Minimal a M x → AnyMinimal a (In M) x
-minimal_of_all a M x m = record { model = m.model; least = λ N sub fit q e. elim (without a N q x fit) [ inl h ↦ h | inr rest ↦ absurd (left N sub q e rest) ] }
-  where
-    left : (N : ℕ → Type 0) → ((p : ℕ) → N p → In M p) → (q : ℕ) → In M q → Model a (λ p. N p × (p ≡ q → ⊥)) x → ⊥
-    left N sub q e rest =
-        minus_not M q (m.least (minus M q) (minus_sub M q) (grows a _ (In (minus M q)) (λ p h. minus_from M q p h.1 (sub p h.0)) x rest) q e)
+minimal_of_all a M x m = record {
+  model = m.model;
+  least = λ N sub fit q e. elim (without a N M sub q x fit) [ inl h ↦ h | inr rest ↦ absurd (minus_not M q (m.least (minus M q) (minus_sub M q) rest q e)) ];
+}
 
 pub any_from : (a : Automaton) (word : ℕ → ℕ) (q : ℕ) → Accepts a word q → AcceptsByAny a word q
 any_from a word q acc = record {
@@ -58,6 +56,6 @@ pub any_to : (a : Automaton) → WellFormed a → is_complete a ≡ true → (pr
     (q : ℕ) → q < state_count a → AcceptsByAny a (letter prefix period) q → Accepts a (letter prefix period) q
 any_to a w c prefix period r q q< acc =
     let f = formed a w c in
-    win_runs (word_moves a prefix period) a (letter prefix period) (st a f prefix period r) (nd a f prefix period r) (word_arena a f prefix period r) q q<
-    (models-win (word_moves a prefix period) a (letter prefix period) (st a f prefix period r) (nd a f prefix period r) (word_arena a f prefix period r) q q<
+    win_runs (word_arena f r) q q<
+    (models-win (word_arena f r) q q<
     acc.vertices acc.edges acc.run.starts acc.run.to (λ i p h. (acc.run.minimal i p h).model) acc.even)

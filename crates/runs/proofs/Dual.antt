@@ -1,8 +1,8 @@
 -- A turned automaton reads the same rules, and is in range too.
-use Rattle.std.proofs.Common.{◌≡◌, ℕ, ◌<◌, true, sym, ap, subst, arith}
+use Rattle.std.proofs.Common.{◌≡◌, ℕ, true, ap, arith}
 use Rattle.draft.specs.declared.parts.Node.{Node}
 use Rattle.draft.specs.declared.parts.Node.TheVariants.{Leaf, Either, Both}
-use Rattle.draft.specs.Automaton.{Automaton, state_count, node_count, node_of, is_complete}
+use Rattle.draft.specs.Automaton.{Automaton, state_count, node_of, is_complete}
 use Rattle.draft.specs.Calls.{dual, turned}
 use Rattle.draft.specs.WellFormed.{WellFormed, Fits}
 use Rattle.draft.proofs.Dual.{states_same, nodes_same, priority_raised, rule_same, node_dual}
@@ -22,9 +22,7 @@ module _ (a : Automaton) where
   turned_formed w c =
       let f = formed a w c in
       record {
-        named = λ x x<. subst (λ s. Fits s x (node_of (turned a) x)) (sym (states_same a))
-            (subst (Fits (state_count a) x) (sym (node_dual a x)) (dual_fits (state_count a) x (node_of a x) (f.named x (subst (λ n. x < n) (nodes_same a) x<))));
-        ruled = λ q l q< l<. subst (λ n. rule_node (turned a) q l < n) (sym (nodes_same a))
-            (subst (λ x. x < node_count a) (sym (rule_node_same q l)) (f.ruled q l (subst (λ n. q < n) (states_same a) q<) l<));
-        low = λ q q<. (let h = subst (λ n. q < n) (states_same a) q< in omega (arith, priority_raised a q h, w.low q h));
+        named = λ x x<. rw (states_same a, node_dual a x) (dual_fits (state_count a) x (node_of a x) (f.named x (rw (nodes_same a) at x<)));
+        ruled = λ q l q< l<. rw (nodes_same a, rule_node_same q l) (f.ruled q l (rw (states_same a) at q<) l<);
+        low = λ q q<. (let h = rw (states_same a) at q< in omega (arith, priority_raised a q h, w.low q h));
       }

@@ -1,7 +1,8 @@
 -- The steps of a repeating word, folded into those of its prefix and one period.
-use Rattle.std.proofs.Common.{◌≡◌, ℕ, zero, suc, ◌+◌, ◌-◌, ◌%◌, ◌<◌, ◌≤◌, eqb, ltb, List, length, get_or, sym, refl, ap, ◌∙◌, subst, inl, inr, mod-eq_of_lt, arith}
-use native.Mathlib.Nat.{mod-add-mod, mod_self, zero-mod}
-use Rattle.std.proofs.lemmas.Bool.{cases_lt, cases_eq, lt-ltb, le-ltb, eq-eqb, ne_eqb, cond-true, cond-false}
+use Rattle.std.proofs.Common.{◌≡◌, ℕ, zero, suc, ◌+◌, ◌-◌, ◌%◌, ◌<◌, ◌≤◌, eqb, ltb, List, length, get_or, sym, refl, ap, ◌∙◌, inl, inr, mod-eq_of_lt, arith}
+use Rattle.std.proofs.Math.Nat.{mod_self, suc-mod, zero-mod}
+use Rattle.std.proofs.lemmas.Bool.{cases_lt, cases_eq, le-ltb, eq-eqb, ne_eqb, cond-true, cond-false, cond_both, ltb-true}
+use Rattle.std.proofs.lemmas.Bool.Decides.{nat_tests}
 use Rattle.std.proofs.lemmas.Nat.{mod_below}
 use Rattle.runs.specs.Word.{letter, Readable}
 use Rattle.runs.specs.WordGame.{next_step}
@@ -26,11 +27,7 @@ module _ (prefix period : List ℕ) where
     next_last k e = cond-true (eqb (suc k) (p + n)) p (suc k) (eq-eqb _ _ e)
 
     pub next_in : (k : ℕ) → k < p + n → next_step prefix period k < p + n
-    next_in k k< =
-        elim (cases_eq (suc k) (p + n)) [
-          | inl e ↦ rw (next_last k e) (omega arith)
-          | inr other ↦ (let l : suc k < p + n = omega arith in rw (next_on k l) l)
-        ]
+    next_in k k< = grind (arith, nat_tests)
 
     pub fold_in : (i : ℕ) → fold i < p + n
     unfolding fold
@@ -46,16 +43,16 @@ module _ (prefix period : List ℕ) where
     unfolding fold
     late zero =
         let e : p + 0 ≡ p = omega arith in
-        let z = zero-mod n in
-        ap fold e ∙ early p (omega arith) ∙ (let f : p ≡ p + 0 % n = omega arith in f)
+        let f : p ≡ p + 0 % n = omega (arith, zero-mod n) in
+        ap fold e ∙ early p (omega arith) ∙ f
     late (suc j) =
         let e : p + suc j ≡ suc (p + j) = omega arith in
-        let s : (j % n + 1) % n ≡ suc j % n = mod-add-mod j n 1 ∙ ap (λ k. k % n) (let t : j + 1 ≡ suc j = omega arith in t) in
+        let s = suc-mod j n in
         let b = mod_below j n some in
         ap fold e ∙ ap (next_step prefix period) (late j)
         ∙ elim (cases_eq (suc (j % n)) n) [
-          | inl l ↦ (let z : (j % n + 1) % n ≡ 0 = ap (λ k. k % n) (let t : j % n + 1 ≡ n = omega arith in t) ∙ mod_self n in next_last (p + j % n) (omega arith) ∙ (let f : p ≡ p + suc j % n = omega arith in f))
-          | inr l ↦ (let h : j % n + 1 < n = omega arith in let z : (j % n + 1) % n ≡ j % n + 1 = mod-eq_of_lt h in next_on (p + j % n) (omega arith) ∙ (let f : suc (p + j % n) ≡ p + suc j % n = omega arith in f))
+          | inl l ↦ (let f : p ≡ p + suc j % n = omega (arith, ap (λ k. k % n) l, mod_self n) in next_last (p + j % n) (omega arith) ∙ f)
+          | inr l ↦ (let h : suc (j % n) < n = omega arith in let f : suc (p + j % n) ≡ p + suc j % n = omega (arith, mod-eq_of_lt h) in next_on (p + j % n) (omega arith) ∙ f)
         ]
 
     pub letter_late : (k : ℕ) → p ≤ k → letter prefix period k ≡ get_or period ((k - p) % n) 0
@@ -77,7 +74,4 @@ module _ (prefix period : List ℕ) where
 
   pub letter_in : (letters : ℕ) → Readable letters prefix period → (k : ℕ) → letter prefix period k < letters
   letter_in letters r k =
-      elim (cases_lt k (length prefix)) [
-        | inl l ↦ subst (λ c. c < letters) (sym (cond-true (ltb k (length prefix)) _ _ (lt-ltb k (length prefix) l))) (r.prefix_in k l)
-        | inr l ↦ subst (λ c. c < letters) (sym (letter_late r.some k l)) (r.period_in _ (mod_below (k - length prefix) (length period) r.some))
-      ]
+      cond_both (ltb k (length prefix)) _ _ (λ c. c < letters) (λ t. r.prefix_in k (ltb-true k (length prefix) t)) (λ _. r.period_in _ (mod_below _ (length period) r.some))

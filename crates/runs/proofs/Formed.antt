@@ -1,6 +1,5 @@
 -- What is used of an automaton: its nodes, rules and priorities are in range.
-use Rattle.std.proofs.Common.{◌≡◌, ℕ, ◌<◌, ◌≤◌, true, is_some, Some, None, Option, sym, refl, arith}
-use Rattle.std.proofs.lemmas.Bool.{both_ways}
+use Rattle.std.proofs.Common.{◌≡◌, ℕ, ◌<◌, ◌≤◌, true, is_some, Some, None, Option, refl, arith}
 use Rattle.parity.proofs.Below.{all_gives}
 use Rattle.draft.specs.Automaton.{Automaton, state_count, node_count, priority_of, rule_of, node_of, is_ruled, is_complete}
 use Rattle.draft.specs.WellFormed.{WellFormed, Fits}
@@ -15,7 +14,7 @@ pub record Formed (a : Automaton) : Type 0 where
 
 some_is : (o : Option ℕ) → is_some o ≡ true → o ≡ Some (node_or_0 o)
 some_is (Some x) e = refl
-some_is None e = absurd (both_ways true (sym e) refl)
+some_is None e = cc
 
 -- a complete automaton has every rule
 pub rule_is : (a : Automaton) → is_complete a ≡ true → (q letter : ℕ) → q < state_count a → letter < a.letters → rule_of a q letter ≡ Some (rule_node a q letter)
@@ -28,7 +27,3 @@ formed a w c = record {
   ruled = λ q l q< l<. w.named q l (rule_node a q l) (rule_is a c q l q< l<);
   low = λ q q<. (let h = w.low q q< in omega arith);
 }
-
--- an automaton that has a state and every rule has a node
-pub some_node : (a : Automaton) → WellFormed a → is_complete a ≡ true → (q : ℕ) → q < state_count a → 0 < node_count a
-some_node a w c q q< = let h = (formed a w c).ruled q 0 q< w.some_letters in omega arith

@@ -1,9 +1,9 @@
 -- A game that answers 0 outside itself: the same winners, and within the bounds of an arena.
-use Rattle.std.proofs.Common.{◌≡◌, ℕ, ◌<◌, ◌≤◌, cond, ltb, sym, refl, ap, ◌∙◌, subst, inl, inr, arith}
+use Rattle.std.proofs.Common.{◌≡◌, ℕ, ◌<◌, ◌≤◌, cond, ltb, refl, ap, ◌∙◌, subst, inl, inr, arith}
 use Rattle.std.proofs.lemmas.Bool.{cases_lt, cond_both, cond-true, cond-false, lt-ltb, le-ltb, ltb-true}
 use Rattle.parity.specs.Game.{Game, Sound, favoured}
 use Rattle.parity.specs.Grading.{winner}
-use Rattle.parity.proofs.Transfer.{Alike, Carries, transfer}
+use Rattle.parity.proofs.Transfer.{Alike, Carries, same_carries, transfer}
 use Rattle.arena.specs.Bounds.{Bounds}
 use Rattle.arena.specs.Known.{known_elsewhere}
 use Rattle.runs.specs.Inside.{inside, inside_place}
@@ -22,53 +22,48 @@ module _ (G : Game) where
     less : (i : ℕ) → i < (inside G).degree v → i < G.degree v
     less i = subst (λ d. i < d) same_degree
 
-  pub inside_sound : Sound G → Sound (inside G)
-  inside_sound s = record {
-    moves = λ v v<. subst (λ d. 0 < d) (sym (same_degree v v<)) (s.moves v v<);
-    stays = λ v i v< i<. subst (λ w. w < G.count) (sym (same_successor v v< i (less v v< i i<))) (s.stays v i v< (less v v< i i<));
-  }
-
   alike : Alike G (inside G) (λ x. x) (λ u. u) (λ u k. k)
   alike = record {
     inside = λ u u<. u<;
     owners = λ u u<. inl (cond-true (ltb u G.count) _ _ (lt-ltb u G.count u<));
     forth = λ u j u< l. (j, less u u< j l, same_successor u u< j (less u u< j l));
-    back = λ u k u< l. (subst (λ d. k < d) (sym (same_degree u u<)) l, same_successor u u< k l);
+    back = λ u k u< l. (rw (same_degree u u<) l, same_successor u u< k l);
   }
 
-  same_favoured : (p : ℕ) → favoured (inside G) p ≡ favoured G p
-  unfolding favoured
-  same_favoured p = refl
-
   carries : (v : ℕ) → Carries G (inside G) (λ x. x) (λ u. u) v
-  carries v x π _ within win i against =
-      let at = λ (k : ℕ). same_priority (π k) (within k) in
-      let w = win i (ap (favoured G) (sym (at i)) ∙ sym (same_favoured _) ∙ against) in
-      (w.0, omega (arith, w.1, at w.0, at i), same_favoured _ ∙ ap (favoured G) (at w.0) ∙ w.2)
+  unfolding favoured
+  carries = same_carries G (inside G) (λ x. x) (λ u. u) (λ p. refl) same_priority
 
-  pub inside_winner : Sound G → (v : ℕ) → v < G.count → winner (inside G) v ≡ winner G v
-  inside_winner s v v< = transfer G (inside G) s (inside_sound s) (λ x. x) (λ u. u) (λ u k. k) alike v v< (carries v)
+  -- a number that is no vertex stands where vertex 0 stands
+  pub inside_elsewhere : {P : Type 0} (place : ℕ → P) (v : ℕ) → G.count ≤ v → inside_place G place v ≡ inside_place G place 0
+  inside_elsewhere place v h = ap place (known_elsewhere G.count v h)
 
-  pub inside_bounds : Sound G → 1 ≤ G.count → G.count ≤ 65535 → ((v : ℕ) → v < G.count → G.priority v ≤ 9999) →
+module _ {G : Game} (sound : Sound G) where
+  pub inside_sound : Sound (inside G)
+  inside_sound = record {
+    moves = λ v v<. rw (same_degree G v v<) (sound.moves v v<);
+    stays = λ v i v< i<. let l = less G v v< i i< in rw (same_successor G v v< i l) (sound.stays v i v< l);
+  }
+
+  pub inside_winner : (v : ℕ) → v < G.count → winner (inside G) v ≡ winner G v
+  inside_winner v v< = transfer sound inside_sound (alike G) v v< (carries G v)
+
+  pub inside_bounds : 1 ≤ G.count → G.count ≤ 65535 → ((v : ℕ) → v < G.count → G.priority v ≤ 9999) →
       ((v : ℕ) → v < G.count → G.degree v ≤ 16) → Bounds (inside G)
-  inside_bounds s some few low narrow = record {
+  inside_bounds some few low narrow = record {
     some = some;
     few = few;
     priorities = λ v. cond_both (ltb v G.count) (G.priority v) 0 (λ p. p ≤ 9999) (λ e. low v (ltb-true v G.count e)) (λ _. omega arith);
-    moves = λ v v<. (inside_sound s).moves v v<;
+    moves = inside_sound.moves;
     limit = λ v. cond_both (ltb v G.count) (G.degree v) 0 (λ d. d ≤ 16) (λ e. narrow v (ltb-true v G.count e)) (λ _. omega arith);
     inside = λ v i. cond_both (ltb v G.count) (cond (ltb i (G.degree v)) (G.successor v i) 0) 0 (λ w. w < G.count)
-        (λ e. cond_both (ltb i (G.degree v)) (G.successor v i) 0 (λ w. w < G.count) (λ h. s.stays v i (ltb-true v G.count e) (ltb-true i (G.degree v) h)) (λ _. omega arith))
+        (λ e. cond_both (ltb i (G.degree v)) (G.successor v i) 0 (λ w. w < G.count) (λ h. sound.stays v i (ltb-true v G.count e) (ltb-true i (G.degree v) h)) (λ _. omega arith))
         (λ _. omega arith);
     no_owner = λ v h. cond-false (ltb v G.count) _ _ (le-ltb v G.count h);
     no_priority = λ v h. cond-false (ltb v G.count) _ _ (le-ltb v G.count h);
     no_degree = λ v h. cond-false (ltb v G.count) _ _ (le-ltb v G.count h);
     no_successor = λ v i h. elim (cases_lt v G.count) [
-      | inl l ↦ cond-true (ltb v G.count) _ _ (lt-ltb v G.count l) ∙ cond-false (ltb i (G.degree v)) _ _ (le-ltb i (G.degree v) (subst (λ d. d ≤ i) (same_degree v l) h))
+      | inl l ↦ cond-true (ltb v G.count) _ _ (lt-ltb v G.count l) ∙ cond-false (ltb i (G.degree v)) _ _ (le-ltb i (G.degree v) (rw (same_degree G v l) at h))
       | inr l ↦ cond-false (ltb v G.count) _ _ (le-ltb v G.count l)
     ];
   }
-
-  -- a number that is no vertex stands where vertex 0 stands
-  pub inside_elsewhere : {P : Type 0} (place : ℕ → P) (v : ℕ) → G.count ≤ v → inside_place G place v ≡ inside_place G place 0
-  inside_elsewhere place v h = ap place (known_elsewhere G.count v h)

@@ -4,6 +4,7 @@ pub mod Moved
 pub mod Segments
 pub mod Passage
 pub mod WordArena
+pub mod StatePlays
 pub mod Sets
 pub mod RunWins
 pub mod WinRuns
@@ -17,4 +18,3 @@ pub mod Turned
 pub mod WordBounded
 pub mod Rest
 pub mod AnySets
-pub mod Rows

@@ -1,20 +1,21 @@
 -- A play through given vertices, one after the other, with only vertices of the largest priority between them: it is won by the
 -- player whom the smallest priority of the given vertices favours.
 use Rattle.std.proofs.Common.{◌≡◌, ℕ, suc, ◌<◌, ◌⊎◌, List, [], ◌∷◌, sym, ap, ◌∙◌, inl, inr, arith}
+use Rattle.std.specs.List.{AllByRecursion}
 use Rattle.parity.specs.Game.{Game, favoured}
-use Rattle.parity.specs.Play.{Play, Wins}
+use Rattle.parity.specs.Play.{Play, Wins, Winning}
 use Rattle.parity.specs.Player.{other}
 use Rattle.parity.specs.declared.player.Player.{Player}
 use Rattle.parity.proofs.Players.{which}
 use Rattle.runs.proofs.Moved.{Step}
-use Rattle.runs.proofs.Segments.{Chain, Each, joined, joined_start, joined_step, joined_meets, joined_each}
+use Rattle.runs.proofs.Segments.{Chain, joined, joined_start, joined_step, joined_meets, joined_each}
 
 abbrev pub High : Game → ℕ → Type 0
 High G u = G.priority u ≡ 9999
 
 -- from u to w through vertices of priority 9,999, x moving by m
 abbrev pub Walk : Game → (ℕ → ℕ) → Player → ℕ → ℕ → Type 0
-Walk G m x u w = (l : List ℕ) × Chain (Step G m x) u l w × Each (High G) l
+Walk G m x u w = (l : List ℕ) × Chain (Step G m x) u l w × AllByRecursion (High G) l
 
 module _ (G : Game) (m : ℕ → ℕ) (x : Player) where
   pub last_step : (u w : ℕ) → Step G m x u w → Walk G m x u w
@@ -52,13 +53,9 @@ module _ (G : Game) (m : ℕ → ℕ) (x : Player) (head p : ℕ → ℕ) (prior
   abbrev Seen : ℕ → Type 0
   Seen u = ((i : ℕ) × (G.priority u ≡ p i)) ⊎ High G u
 
-  all_seen : (l : List ℕ) → Each (High G) l → Each Seen l
-  all_seen [] e = tt
-  all_seen (t ∷ ts) e = (inr e.0, all_seen ts e.1)
-
   seen : (k : ℕ) → Seen (passage k)
   unfolding passage
-  seen = joined_each (Step G m x) head tail chain Seen (λ i. inl (i, priorities i)) (λ i. all_seen (tail i) (walks i).2)
+  seen k = elim (joined_each (Step G m x) head tail chain (High G) (λ i. (walks i).2) k) [ inl h ↦ inl (h.0, ap G.priority h.1 ∙ priorities h.0) | inr e ↦ inr e ]
 
   meets : (i : ℕ) → (k : ℕ) × (G.priority (passage k) ≡ p i)
   unfolding passage
@@ -72,6 +69,10 @@ module _ (G : Game) (m : ℕ → ℕ) (x : Player) (head p : ℕ → ℕ) (prior
         | inl s ↦ (s.0, omega (arith, r.1, s.1, k.1), ap (favoured G) (sym s.1) ∙ r.2)
         | inr e ↦ absurd (omega (arith, r.1, e, k.1, low i))
       ]
+
+  -- what x's winning moves make of it
+  pub moves_least : Winning G x (λ past u. m u) (head 0) → LeastFavours G x p
+  moves_least w = won_least x (w.wins passage passage_plays passage_follows)
 
   -- a priority of the passage below b that favours y
   abbrev Below : Player → ℕ → Type 0

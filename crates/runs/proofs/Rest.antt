@@ -1,7 +1,7 @@
 -- The rest of the piece that holds letter k holds the letters of the word from k on.
-use Rattle.std.proofs.Common.{◌≡◌, ℕ, ◌+◌, ◌-◌, ◌%◌, ◌<◌, ◌≤◌, ltb, List, length, get_or, drop, sym, ap, ◌∙◌, subst, inl, inr, mod-eq_of_lt, arith}
-use native.Mathlib.Nat.{mod-add-mod}
-use Rattle.std.proofs.lemmas.Bool.{cases_lt, lt-ltb, le-ltb, cond-true, cond-false}
+use Rattle.std.proofs.Common.{◌≡◌, ℕ, ◌+◌, ◌-◌, ◌%◌, ◌<◌, ◌≤◌, ltb, List, length, get_or, drop, sym, ap, ◌∙◌, mod-eq_of_lt, arith}
+use Rattle.std.proofs.Math.Nat.{mod-add-mod}
+use Rattle.std.proofs.lemmas.Bool.{lt-ltb, ltb-true, ltb-false, cond-true, cond_both}
 use Rattle.std.proofs.lemmas.Nat.{mod_below}
 use Rattle.std.proofs.lemmas.List.{length-drop, get_or-drop}
 use Rattle.runs.specs.Word.{letter}
@@ -37,11 +37,7 @@ module _ (prefix period : List ℕ) (some : 0 < length period) where
       )
 
   pub rest : (k : ℕ) → Rest k (step prefix period k)
-  rest k =
-      elim (cases_lt k p) [
-        | inl l ↦ subst (Rest k) (sym (cond-true (ltb k p) (drop k prefix) _ (lt-ltb k p l))) (in_prefix k l)
-        | inr l ↦ subst (Rest k) (sym (cond-false (ltb k p) _ (drop ((k - p) % n) period) (le-ltb k p l))) (in_period k l)
-      ]
+  rest k = cond_both (ltb k p) (drop k prefix) (drop ((k - p) % n) period) (Rest k) (λ t. in_prefix k (ltb-true k p t)) (λ t. in_period k (ltb-false k p t))
 
 pub step_is_rest : StepIsRest
 step_is_rest prefix period k some = rest prefix period some k

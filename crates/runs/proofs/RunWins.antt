@@ -1,143 +1,107 @@
 -- An accepting run wins the word game: player 0 leads the play along a path of the run.
 use Rattle.std.proofs.Common.{◌≡◌, ℕ, zero, suc, ◌<◌, refl, subst, inl, inr, arith}
 use Rattle.parity.specs.Game.{Game}
-use Rattle.parity.specs.Play.{Play, Wins, Winning}
 use Rattle.parity.specs.Grading.{winner}
 use Rattle.parity.specs.Move.{move}
-use Rattle.parity.specs.Determinacy.{reported}
 use Rattle.parity.specs.declared.player.Player.TheVariants.{Zero, One}
 use Rattle.parity.proofs.Players.{which}
 use Rattle.parity.proofs.Determined.{reported_wins, move_legal}
 use Rattle.parity.proofs.Duel.{not_both}
 use Rattle.draft.specs.declared.parts.Node.{Node}
 use Rattle.draft.specs.declared.parts.Node.TheVariants.{Leaf, Either, Both}
-use Rattle.draft.specs.Automaton.{Automaton, state_count, node_count, priority_of, node_of}
+use Rattle.draft.specs.Automaton.{Automaton, state_count, node_count, node_of}
 use Rattle.draft.specs.WellFormed.{Fits}
 use Rattle.runs.specs.Models.{In, Model, by_leaf, by_left, by_right, by_both}
 use Rattle.runs.specs.Run.{rule_node, LeastEven, Accepts}
 use Rattle.runs.proofs.Moved.{Step, not_one, free, forced, of_two}
-use Rattle.runs.proofs.Passage.{Walk, last_step, first_step, passage, passage_plays, passage_follows, least_wins}
+use Rattle.runs.proofs.Passage.{Walk, last_step, first_step}
+use Rattle.runs.proofs.StatePlays.{play, plays, follows, wins}
 use Rattle.runs.proofs.WordArena.{NodeAt, WordArena, even_least}
 
-module _ (G : Game) (a : Automaton) (word : ℕ → ℕ) (st nd : ℕ → ℕ → ℕ) (arena : WordArena G a word st nd) where
-  -- whatever player 1 does by m, the play gets from a node to a state of the model
-  module _ (m : ℕ → ℕ) (legal : (u : ℕ) → u < G.count → m u < G.degree u) where
-    abbrev Reaches : (ℕ → Type 0) → ℕ → ℕ → Type 0
-    Reaches M i x = (q : ℕ) × (q < state_count a) × M q × Walk G m One (nd i x) (st (suc i) q)
+module _ {G : Game} {a : Automaton} {word : ℕ → ℕ} {st nd : ℕ → ℕ → ℕ} (arena : WordArena G a word st nd) where
+  abbrev m : ℕ → ℕ
+  m = move G
 
-    further : (M : ℕ → Type 0) (i x y : ℕ) → y < node_count a → Step G m One (nd i x) (nd i y) → Reaches M i y → Reaches M i x
-    further M i x y y< s w = (w.0, w.1, w.2, first_step G m One (nd i x) (nd i y) (st (suc i) w.0) s (arena.node_high i y y<) w.3)
+  legal : (i x : ℕ) → x < node_count a → m (nd i x) < G.degree (nd i x)
+  legal i x x< = move_legal G arena.sound _ (arena.node_in i x x<)
 
-    -- player 0 chooses the child y, at position k
-    by_choice : (M : ℕ → Type 0) (i x y k : ℕ) → y < node_count a → k < G.degree (nd i x) → G.successor (nd i x) k ≡ nd i y → G.owner (nd i x) ≡ Zero → Reaches M i y → Reaches M i x
-    by_choice M i x y k y< k< to own = further M i x y y< (free G m One (nd i x) _ k k< to (not_one own))
+  -- whatever player 1's moves are, the play gets from a node to a state of the model
+  abbrev Reaches : (ℕ → Type 0) → ℕ → ℕ → Type 0
+  Reaches M i x = (q : ℕ) × (q < state_count a) × M q × Walk G m One (nd i x) (st (suc i) q)
 
-    -- node x, of the shape n
-    shape : (i x : ℕ) → x < node_count a → (n : Node) → node_of a x ≡ n → Fits (state_count a) x n × NodeAt G st nd i x n
-    shape i x x< n e = (subst (Fits (state_count a) x) e (arena.formed.named x x<), subst (NodeAt G st nd i x) e (arena.node_at i x x<))
+  further : (M : ℕ → Type 0) (i x y : ℕ) → y < node_count a → Step G m One (nd i x) (nd i y) → Reaches M i y → Reaches M i x
+  further M i x y y< s w = (w.0, w.1, w.2, first_step G m One (nd i x) (nd i y) (st (suc i) w.0) s (arena.node_high i y y<) w.3)
 
-    reaches : (M : ℕ → Type 0) (i x : ℕ) → x < node_count a → Model a M x → Reaches M i x
-    reaches M i x x< (by_leaf {q = q} e h) =
-        let (n, at) = shape i x x< (Leaf q) e in
-        (q, n, h, last_step G m One _ _ (forced G m One (nd i x) _ (legal _ (arena.node_in i x x<)) at.0 at.1))
-    reaches M i x x< (by_left {l = l} {r = r} e h) =
-        let (n, at) = shape i x x< (Either l r) e in
-        let l< : l < node_count a = omega (arith, n.0) in
-        by_choice M i x l 0 l< (omega (arith, at.1)) at.2 at.0 (reaches M i l l< h)
-    reaches M i x x< (by_right {l = l} {r = r} e h) =
-        let (n, at) = shape i x x< (Either l r) e in
-        let r< : r < node_count a = omega (arith, n.1) in
-        by_choice M i x r 1 r< (omega (arith, at.1)) at.3 at.0 (reaches M i r r< h)
-    reaches M i x x< (by_both {l = l} {r = r} e h h') =
-        let (n, at) = shape i x x< (Both l r) e in
-        let l< : l < node_count a = omega (arith, n.0) in
-        let r< : r < node_count a = omega (arith, n.1) in
-        let first : Reaches M i l = reaches M i l l< h in
-        let second : Reaches M i r = reaches M i r r< h' in
-        elim (of_two G m One (nd i x) _ _ (legal _ (arena.node_in i x x<)) at.1 at.2 at.3) [
-          | inl s ↦ further M i x l l< s first
-          | inr s ↦ further M i x r r< s second
+  -- player 0 chooses the child y, at position k
+  by_choice : (M : ℕ → Type 0) (i x y k : ℕ) → y < node_count a → k < G.degree (nd i x) → G.successor (nd i x) k ≡ nd i y → G.owner (nd i x) ≡ Zero → Reaches M i y → Reaches M i x
+  by_choice M i x y k y< k< to own = further M i x y y< (free G m One (nd i x) _ k k< to (not_one own))
+
+  -- node x, of the shape n
+  shape : (i x : ℕ) → x < node_count a → (n : Node) → node_of a x ≡ n → Fits (state_count a) x n × NodeAt G st nd i x n
+  shape i x x< n e = (subst (Fits (state_count a) x) e (arena.formed.named x x<), subst (NodeAt G st nd i x) e (arena.node_at i x x<))
+
+  reaches : (M : ℕ → Type 0) (i x : ℕ) → x < node_count a → Model a M x → Reaches M i x
+  reaches M i x x< (by_leaf {q = q} e h) =
+      let (n, at) = shape i x x< (Leaf q) e in
+      (q, n, h, last_step G m One _ _ (forced G m One (nd i x) _ (legal i x x<) at.0 at.1))
+  reaches M i x x< (by_left {l = l} {r = r} e h) =
+      let (n, at) = shape i x x< (Either l r) e in
+      let l< : l < node_count a = omega (arith, n.0) in
+      by_choice M i x l 0 l< (omega (arith, at.1)) at.2 at.0 (reaches M i l l< h)
+  reaches M i x x< (by_right {l = l} {r = r} e h) =
+      let (n, at) = shape i x x< (Either l r) e in
+      let r< : r < node_count a = omega (arith, n.1) in
+      by_choice M i x r 1 r< (omega (arith, at.1)) at.3 at.0 (reaches M i r r< h)
+  reaches M i x x< (by_both {l = l} {r = r} e h h') =
+      let (n, at) = shape i x x< (Both l r) e in
+      let l< : l < node_count a = omega (arith, n.0) in
+      let r< : r < node_count a = omega (arith, n.1) in
+      let first : Reaches M i l = reaches M i l l< h in
+      let second : Reaches M i r = reaches M i r r< h' in
+      elim (of_two G m One (nd i x) _ _ (legal i x x<) at.1 at.2 at.3) [
+        | inl s ↦ further M i x l l< s first
+        | inr s ↦ further M i x r r< s second
+      ]
+
+  -- all that is used of a run: the successors of each vertex are a model, whatever kind of sets they are
+  module _ (start : ℕ) (start< : start < state_count a) (V : ℕ → ℕ → Type 0) (E : ℕ → ℕ → ℕ → Type 0) (first : V 0 start)
+      (onto : (i p q : ℕ) → E i p q → V (suc i) q) (models : (i p : ℕ) → V i p → Model a (E i p) (rule_node a p (word i))) where
+    abbrev Here : ℕ → Type 0
+    Here i = (p : ℕ) × (p < state_count a) × V i p
+
+    rule_in : (i : ℕ) (h : Here i) → rule_node a h.0 (word i) < node_count a
+    rule_in i h = arena.formed.ruled h.0 (word i) h.1 (arena.reads i)
+
+    link : (i : ℕ) (h : Here i) → Reaches (E i h.0) i (rule_node a h.0 (word i))
+    link i h = reaches (E i h.0) i (rule_node a h.0 (word i)) (rule_in i h) (models i h.0 h.2)
+
+    here : (i : ℕ) → Here i
+    here zero = (start, start<, first)
+    here (suc i) = (let h = here i in let w = link i h in (w.0, w.1, onto i h.0 w.0 w.2))
+
+    abbrev ρ : ℕ → ℕ
+    ρ i = (here i).0
+
+    path : (i : ℕ) → E i (ρ i) (ρ (suc i))
+    unfolding here
+    path i = (link i (here i)).2
+
+    ways : (i : ℕ) → Walk G m One (nd i (rule_node a (ρ i) (word i))) (st (suc i) (ρ (suc i)))
+    unfolding here
+    ways i = (link i (here i)).3
+
+    states : (i : ℕ) → ρ i < state_count a
+    states i = (here i).1
+
+    pub models-win : ((ρ' : ℕ → ℕ) → ρ' 0 ≡ start → ((i : ℕ) → E i (ρ' i) (ρ' (suc i))) → LeastEven a ρ') → winner G (st 0 start) ≡ Zero
+    unfolding here
+    models-win accepted =
+        elim (which (winner G (st 0 start)) Zero) [
+          | inl e ↦ e
+          | inr e ↦ absurd (not_both G Zero (play arena One ρ states ways)
+              (wins arena One ρ states ways Zero (even_least G arena.even_zero a ρ (accepted ρ refl path)))
+              ((reported_wins G arena.sound (st 0 start) (arena.state_in 0 start start<) One e).wins _ (plays arena One ρ states ways) (follows arena One ρ states ways)))
         ]
-
-    -- all that is used of a run: the successors of each vertex are a model, whatever kind of sets they are
-    module _ (start : ℕ) (start< : start < state_count a) (V : ℕ → ℕ → Type 0) (E : ℕ → ℕ → ℕ → Type 0) (first : V 0 start)
-        (onto : (i p q : ℕ) → E i p q → V (suc i) q) (models : (i p : ℕ) → V i p → Model a (E i p) (rule_node a p (word i))) where
-      abbrev Here : ℕ → Type 0
-      Here i = (p : ℕ) × (p < state_count a) × V i p
-
-      rule_in : (i : ℕ) (h : Here i) → rule_node a h.0 (word i) < node_count a
-      rule_in i h = arena.formed.ruled h.0 (word i) h.1 (arena.reads i)
-
-      link : (i : ℕ) (h : Here i) → Reaches (E i h.0) i (rule_node a h.0 (word i))
-      link i h = reaches (E i h.0) i (rule_node a h.0 (word i)) (rule_in i h) (models i h.0 h.2)
-
-      here : (i : ℕ) → Here i
-      here zero = (start, start<, first)
-      here (suc i) = (let h = here i in let w = link i h in (w.0, w.1, onto i h.0 w.0 w.2))
-
-      ρ : ℕ → ℕ
-      ρ i = (here i).0
-
-      path_starts : ρ 0 ≡ start
-      unfolding ρ here
-      path_starts = refl
-
-      path_goes : (i : ℕ) → E i (ρ i) (ρ (suc i))
-      unfolding ρ here
-      path_goes i = (link i (here i)).2
-
-      abbrev head : ℕ → ℕ
-      head i = st i (ρ i)
-
-      priorities : (i : ℕ) → G.priority (head i) ≡ priority_of a (ρ i)
-      unfolding ρ
-      priorities i = arena.state_priority i (ρ i) (here i).1
-
-      low : (i : ℕ) → priority_of a (ρ i) < 9999
-      unfolding ρ
-      low i = omega (arith, arena.formed.low (ρ i) (here i).1)
-
-      walks : (i : ℕ) → Walk G m One (head i) (head (suc i))
-      unfolding ρ here
-      walks i =
-          let h = here i in
-          let s = forced G m One (st i h.0) _ (legal _ (arena.state_in i h.0 h.1)) (arena.state_degree i h.0 h.1) (arena.state_next i h.0 h.1) in
-          first_step G m One _ _ _ s (arena.node_high i _ (rule_in i h)) (link i h).3
-
-      abbrev p : ℕ → ℕ
-      p i = priority_of a (ρ i)
-
-      pub play : ℕ → ℕ
-      play = passage G m One head p priorities low walks
-
-      pub play_plays : Play G (st 0 start) play
-      unfolding play ρ here
-      play_plays = passage_plays G m One head p priorities low walks
-
-      pub play_follows : (k : ℕ) → G.owner (play k) ≡ One → play (suc k) ≡ G.successor (play k) (m (play k))
-      unfolding play
-      play_follows = passage_follows G m One head p priorities low walks
-
-      pub play_won : ((ρ' : ℕ → ℕ) → ρ' 0 ≡ start → ((i : ℕ) → E i (ρ' i) (ρ' (suc i))) → LeastEven a ρ') → Wins G Zero play
-      unfolding play
-      play_won accepted = least_wins G m One head p priorities low walks Zero (even_least G arena.even_zero a ρ (accepted ρ path_starts path_goes))
-
-  pub models-win : (start : ℕ) → start < state_count a → (V : ℕ → ℕ → Type 0) (E : ℕ → ℕ → ℕ → Type 0) → V 0 start →
-      ((i p q : ℕ) → E i p q → V (suc i) q) → ((i p : ℕ) → V i p → Model a (E i p) (rule_node a p (word i))) →
-      ((ρ : ℕ → ℕ) → ρ 0 ≡ start → ((i : ℕ) → E i (ρ i) (ρ (suc i))) → LeastEven a ρ) → winner G (st 0 start) ≡ Zero
-  models-win start start< V E first onto models accepted =
-      elim (which (winner G (st 0 start)) Zero) [ inl e ↦ e | inr e ↦ absurd (not_both G Zero π (play_won (move G) legal start start< V E first onto models accepted) (lost e)) ]
-    where
-      legal : (u : ℕ) → u < G.count → move G u < G.degree u
-      legal = move_legal G arena.sound
-
-      π : ℕ → ℕ
-      π = play (move G) legal start start< V E first onto models
-
-      lost : winner G (st 0 start) ≡ One → Wins G One π
-      lost e =
-          let w = subst (λ x. Winning G x (reported G) (st 0 start)) e (reported_wins G arena.sound (st 0 start) (arena.state_in 0 start start<)) in
-          w.wins π (play_plays (move G) legal start start< V E first onto models) (play_follows (move G) legal start start< V E first onto models)
 
   pub run_wins : (start : ℕ) → start < state_count a → Accepts a word start → winner G (st 0 start) ≡ Zero
   run_wins start start< acc =

@@ -1,14 +1,11 @@
 -- Finite segments, each beginning where the one before ends, joined to one unending list.
-use Rattle.std.proofs.Common.{◌≡◌, ℕ, zero, suc, List, [], ◌∷◌, refl, ap}
+use Rattle.std.proofs.Common.{◌≡◌, ℕ, zero, suc, List, [], ◌∷◌, ◌⊎◌, inl, inr, refl, ap}
+use Rattle.std.specs.List.{AllByRecursion}
 
 -- steps from u through the vertices of the list to w
 abbrev pub Chain : (ℕ → ℕ → Type 0) → ℕ → List ℕ → ℕ → Type 0
 Chain Step u [] w = Step u w
 Chain Step u (t ∷ ts) w = Step u t × Chain Step t ts w
-
-abbrev pub Each : (ℕ → Type 0) → List ℕ → Type 0
-Each P [] = Unit {0}
-Each P (t ∷ ts) = P t × Each P ts
 
 module _ (Step : ℕ → ℕ → Type 0) (head : ℕ → ℕ) (tail : ℕ → List ℕ) (chain : (i : ℕ) → Chain Step (head i) (tail i) (head (suc i))) where
   -- the segment, the vertex now, and the rest of the segment
@@ -61,18 +58,21 @@ module _ (Step : ℕ → ℕ → Type 0) (head : ℕ → ℕ) (tail : ℕ → Li
   unfolding joined enter
   joined_meets i = (let h = enters i in (h.0, ap (λ a. a.now) h.1))
 
-  -- what holds of each vertex of each segment holds of each vertex met
-  module _ (P : ℕ → Type 0) (heads : (i : ℕ) → P (head i)) (tails : (i : ℕ) → Each P (tail i)) where
-    on_each : (i u : ℕ) (l : List ℕ) (c : Chain Step u l (head (suc i))) → Each P l → P (on i u l c).now × Each P (on i u l c).left
-    unfolding on enter
-    on_each i u [] c e = (heads (suc i), tails (suc i))
-    on_each i u (t ∷ ts) c e = (e.0, e.1)
+  -- each vertex met is a head, or one of which holds what holds of those between heads
+  module _ (P : ℕ → Type 0) (tails : (i : ℕ) → AllByRecursion P (tail i)) where
+    abbrev pub Met : ℕ → Type 0
+    Met u = ((i : ℕ) × (u ≡ head i)) ⊎ P u
 
-    at_each : (k : ℕ) → P (at k).now × Each P (at k).left
+    on_each : (i u : ℕ) (l : List ℕ) (c : Chain Step u l (head (suc i))) → AllByRecursion P l → Met (on i u l c).now × AllByRecursion P (on i u l c).left
+    unfolding on enter
+    on_each i u [] c e = (inl (suc i, refl), tails (suc i))
+    on_each i u (t ∷ ts) c e = (inr e.0, e.1)
+
+    at_each : (k : ℕ) → Met (at k).now × AllByRecursion P (at k).left
     unfolding at enter
-    at_each zero = (heads 0, tails 0)
+    at_each zero = (inl (0, refl), tails 0)
     at_each (suc k) = (let a = at k in on_each a.segment a.now a.left a.ahead (at_each k).1)
 
-    pub joined_each : (k : ℕ) → P (joined k)
+    pub joined_each : (k : ℕ) → Met (joined k)
     unfolding joined
     joined_each k = (at_each k).0

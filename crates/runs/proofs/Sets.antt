@@ -1,6 +1,7 @@
 -- Models: a larger set is one too, it is decided whether a set is one, and inside each there is a minimal one.
-use Rattle.std.proofs.Common.{◌≡◌, ℕ, zero, suc, ◌<◌, ◌≤◌, true, not, ◌&&◌, eqb, ◌⊎◌, sym, refl, subst, inl, inr, eq-or-lt_of_le, arith}
+use Rattle.std.proofs.Common.{◌≡◌, ℕ, zero, suc, ◌<◌, true, not, ◌&&◌, eqb, ◌⊎◌, sym, refl, subst, inl, inr, arith}
 use Rattle.std.proofs.lemmas.Bool.{cases_eq, cases_Bool, and_parts, and_from, both_ways, ne_eqb, eqb-false, not-true, not_from_false}
+use Rattle.parity.proofs.Below.{one_more}
 use Rattle.draft.specs.declared.parts.Node.{Node}
 use Rattle.draft.specs.declared.parts.Node.TheVariants.{Leaf, Either, Both}
 use Rattle.draft.specs.Automaton.{Automaton, state_count, node_count, node_of}
@@ -34,12 +35,12 @@ module _ (a : Automaton) where
   grows M N s x (by_right e h) = by_right e (grows M N s _ h)
   grows M N s x (by_both e h h') = by_both e (grows M N s _ h) (grows M N s _ h')
 
-  -- a model has finitely many leaves: q is among them, or can be left out
-  pub without : (M : ℕ → Type 0) (q x : ℕ) → Model a M x → M q ⊎ Model a (λ p. M p × (p ≡ q → ⊥)) x
-  without M q x (by_leaf {q = p} e h) = elim (cases_eq p q) [ inl s ↦ inl (subst M s h) | inr n ↦ inr (by_leaf e (h, n)) ]
-  without M q x (by_left e h) = elim (without M q _ h) [ inl k ↦ inl k | inr k ↦ inr (by_left e k) ]
-  without M q x (by_right e h) = elim (without M q _ h) [ inl k ↦ inl k | inr k ↦ inr (by_right e k) ]
-  without M q x (by_both e h h') = elim (without M q _ h) [ inl k ↦ inl k | inr k ↦ elim (without M q _ h') [ inl k' ↦ inl k' | inr k' ↦ inr (by_both e k k') ] ]
+  -- a model has finitely many leaves: q is among them, or can be left out of any set that has them all
+  pub without : (N : ℕ → Type 0) (M : States) → ((p : ℕ) → N p → In M p) → (q x : ℕ) → Model a N x → N q ⊎ Model a (In (minus M q)) x
+  without N M s q x (by_leaf {q = p} e h) = elim (cases_eq p q) [ inl same ↦ inl (subst N same h) | inr n ↦ inr (by_leaf e (minus_from M q p n (s p h))) ]
+  without N M s q x (by_left e h) = elim (without N M s q _ h) [ inl k ↦ inl k | inr k ↦ inr (by_left e k) ]
+  without N M s q x (by_right e h) = elim (without N M s q _ h) [ inl k ↦ inl k | inr k ↦ inr (by_right e k) ]
+  without N M s q x (by_both e h h') = elim (without N M s q _ h) [ inl k ↦ inl k | inr k ↦ elim (without N M s q _ h') [ inl k' ↦ inl k' | inr k' ↦ inr (by_both e k k') ] ]
 
   -- what a node of each kind wants of a model
   abbrev Parts : States → Node → Type 0
@@ -77,29 +78,29 @@ module _ (a : Automaton) where
         [ inl h ↦ inl (whole M x (node_of a x) refl h) | inr n ↦ inr (λ h. n (parts M x h)) ]
 
     module _ (x : ℕ) (x< : x < node_count a) (M : States) (h : Model a (In M) x) where
+      -- without q, N is no model
+      abbrev Needed : States → ℕ → Type 0
+      Needed N q = N q ≡ true → Model a (In (minus N q)) x → ⊥
+
       -- a model inside M from which no state below k can be left out
       abbrev Shrunk : ℕ → Type 0
-      Shrunk k = (N : States) × (N ⊆ M) × Model a (In N) x × ((q : ℕ) → q < k → N q ≡ true → Model a (In (minus N q)) x → ⊥)
-
-      shrink_more : (k : ℕ) → Shrunk k → Shrunk (suc k)
-      shrink_more k (N, sub, model, least) = elim (decide (minus N k) (suc x) x (omega arith) x<) [ inl fits ↦ (minus N k, (λ p e. sub p (minus_sub N k p e)), fits, smaller) | inr misses ↦ (N, sub, model, with_it misses) ]
-        where
-          smaller : (q : ℕ) → q < suc k → minus N k q ≡ true → Model a (In (minus (minus N k) q)) x → ⊥
-          smaller q l e fit =
-              let le : q ≤ k = omega arith in
-              elim (eq-or-lt_of_le le) [
-                | inl same ↦ minus_not N k (subst (λ p. minus N k p ≡ true) same e)
-                | inr less ↦ least q less (minus_sub N k q e) (grows (In (minus (minus N k) q)) (In (minus N q)) (minus_mono (minus N k) N q (minus_sub N k)) x fit)
-              ]
-
-          with_it : (Model a (In (minus N k)) x → ⊥) → (q : ℕ) → q < suc k → N q ≡ true → Model a (In (minus N q)) x → ⊥
-          with_it misses q l e fit =
-              let le : q ≤ k = omega arith in
-              elim (eq-or-lt_of_le le) [ inl same ↦ misses (subst (λ p. Model a (In (minus N p)) x) same fit) | inr less ↦ least q less e fit ]
+      Shrunk k = (N : States) × (N ⊆ M) × Model a (In N) x × ((q : ℕ) → q < k → Needed N q)
 
       shrink : (k : ℕ) → Shrunk k
       shrink zero = (M, (λ p e. e), h, λ q l. absurd (omega arith))
-      shrink (suc k) = shrink_more k (shrink k)
+      shrink (suc k) =
+          let (N, sub, model, least) = shrink k in
+          elim (decide (minus N k) (suc x) x (omega arith) x<) [
+            | inl fits ↦ (
+              minus N k,
+              (λ p e. sub p (minus_sub N k p e)),
+              fits,
+              one_more (Needed (minus N k)) k
+                  (λ q less e fit. least q less (minus_sub N k q e) (grows (In (minus (minus N k) q)) (In (minus N q)) (minus_mono (minus N k) N q (minus_sub N k)) x fit))
+                  (λ e _. minus_not N k e),
+            )
+            | inr misses ↦ (N, sub, model, one_more (Needed N) k least (λ _. misses))
+          ]
 
       -- a minimal model inside a model of states below b
       pub minimal_inside : (b : ℕ) → ((q : ℕ) → M q ≡ true → q < b) → (N : States) × (N ⊆ M) × Minimal a N x
@@ -107,8 +108,5 @@ module _ (a : Automaton) where
           let s = shrink b in (
             s.0,
             s.1,
-            record {
-              model = s.2;
-              least = λ N sub fit q e. elim (without (In N) q x fit) [ inl t ↦ t | inr rest ↦ absurd (s.3 q (below q (s.1 q e)) e (grows _ (In (minus s.0 q)) (λ p h. minus_from s.0 q p h.1 (sub p h.0)) x rest)) ];
-            },
+            record { model = s.2; least = λ N sub fit q e. elim (without (In N) s.0 sub q x fit) [ inl t ↦ t | inr rest ↦ absurd (s.3 q (below q (s.1 q e)) e rest) ] },
           )

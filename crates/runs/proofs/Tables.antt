@@ -1,12 +1,11 @@
 -- Two tables, one behind the other, numbered row by row: which row and column a number stands for.
-use Rattle.std.proofs.Common.{◌≡◌, ℕ, ◌+◌, ◌-◌, ◌*◌, ◌/◌, ◌%◌, ◌<◌, ◌≤◌, cond, ltb, ◌⊎◌, ap, ◌∙◌, inl, inr, eq-zero-or-pos, mul-zero, arith}
+use Rattle.std.proofs.Common.{◌≡◌, ℕ, ◌+◌, ◌-◌, ◌*◌, ◌/◌, ◌%◌, ◌<◌, ◌≤◌, cond, ltb, ap, ◌∙◌, eq-zero-or-pos, mul-zero, arith}
 use lib.Arith.{digits_lt}
-use Rattle.std.proofs.lemmas.Bool.{cases_lt, lt-ltb, le-ltb, cond-true, cond-false}
+use Rattle.std.proofs.lemmas.Bool.{lt-ltb, le-ltb, ltb-true, ltb-false, cond-true, cond-false, cond_both}
 use Rattle.std.proofs.lemmas.Nat.{div-mul-add, mod-mul-add, div_below, mod_below}
 
 pub some_columns : (rows columns v : ℕ) → v < rows * columns → 0 < columns
-some_columns rows columns v h =
-    elim (eq-zero-or-pos columns) [ inr l ↦ l | inl e ↦ absurd (let z : rows * columns ≡ 0 = ap (λ k. rows * k) e ∙ mul-zero rows in omega arith) ]
+some_columns rows columns v h = grind (arith, mul-zero rows, eq-zero-or-pos columns)
 
 -- the first table has R rows of C numbers and the second R' rows of C'; f and g name what stands at a row and a column
 module _ {P : Type 0} (f g : ℕ → ℕ → P) (R C R' C' : ℕ) where
@@ -32,21 +31,16 @@ module _ {P : Type 0} (f g : ℕ → ℕ → P) (R C R' C' : ℕ) where
   pub second_in : (r c : ℕ) → r < R' → c < C' → R * C + (r * C' + c) < R * C + R' * C'
   second_in r c r< c< = omega (arith, digits_lt {q = r} {m = R'} {r = c} {c = C'} r< c<)
 
-  abbrev pub Known : ℕ → Type 0
-  Known v =
-      ((r : ℕ) × (c : ℕ) × (r < R) × (c < C) × (place v ≡ f r c))
-      ⊎ ((r : ℕ) × (c : ℕ) × (r < R') × (c < C') × (place v ≡ g r c))
-
-  -- every number stands for a row and a column
-  pub known : (v : ℕ) → v < R * C + R' * C' → Known v
-  known v v< = elim (cases_lt v (R * C)) [ inl l ↦ inl (first l) | inr l ↦ inr (second l) ]
+  -- what holds at each row and column holds at each number
+  pub each_place : (Q : P → Type 0) → ((r c : ℕ) → r < R → c < C → Q (f r c)) → ((r c : ℕ) → r < R' → c < C' → Q (g r c)) →
+      (v : ℕ) → v < R * C + R' * C' → Q (place v)
+  each_place Q first second v v< = cond_both (ltb v (R * C)) _ _ Q (λ t. in_first (ltb-true v (R * C) t)) (λ t. in_second (ltb-false v (R * C) t))
     where
-      first : v < R * C → (r : ℕ) × (c : ℕ) × (r < R) × (c < C) × (place v ≡ f r c)
-      first l = let h = some_columns R C v l in (v / C, v % C, div_below v C R h l, mod_below v C h, cond-true _ _ _ (lt-ltb _ _ l))
+      in_first : v < R * C → Q (f (v / C) (v % C))
+      in_first l = let h = some_columns R C v l in first _ _ (div_below v C R h l) (mod_below v C h)
 
-      second : R * C ≤ v → (r : ℕ) × (c : ℕ) × (r < R') × (c < C') × (place v ≡ g r c)
-      second l =
-          let w = v - R * C in
-          let k : w < R' * C' = omega arith in
-          let h = some_columns R' C' w k in
-          (w / C', w % C', div_below w C' R' h k, mod_below w C' h, cond-false _ _ _ (le-ltb _ _ l))
+      in_second : R * C ≤ v → Q (g ((v - R * C) / C') ((v - R * C) % C'))
+      in_second l =
+          let k : v - R * C < R' * C' = omega arith in
+          let h = some_columns R' C' _ k in
+          second _ _ (div_below _ C' R' h k) (mod_below _ C' h)

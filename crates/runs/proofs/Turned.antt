@@ -6,7 +6,7 @@ use Rattle.parity.specs.Player.{other}
 use Rattle.parity.specs.declared.player.Player.TheVariants.{Zero}
 use Rattle.parity.proofs.Parities.{parity, favoured_even, favoured_odd}
 use Rattle.parity.proofs.Players.{which, apart}
-use Rattle.parity.proofs.Transfer.{Alike, Shifted, shifted_carries, transfer}
+use Rattle.parity.proofs.Transfer.{Alike, Raised, Shifted, shifted_carries, transfer}
 use Rattle.draft.specs.declared.parts.Node.{Node}
 use Rattle.draft.specs.declared.parts.Node.TheVariants.{Leaf, Either, Both}
 use Rattle.draft.specs.Automaton.{Automaton, state_count, node_of, is_complete}
@@ -21,7 +21,7 @@ use Rattle.runs.proofs.Accepted.{start_in, same_winner, accepted_wins, won_accep
 use Rattle.draft.proofs.Dual.{states_same, nodes_same, priority_raised, node_dual}
 use Rattle.runs.proofs.Dual.{rule_node_same, turned_formed}
 use Rattle.runs.proofs.Formed.{Formed, formed}
-use Rattle.runs.proofs.WordGames.{word_known, word_sound, state_place}
+use Rattle.runs.proofs.WordGames.{word_each, word_sound, state_place}
 
 dual_degree : (n : Node) → node_degree (dual n) ≡ node_degree n
 dual_degree (Leaf q) = refl
@@ -86,28 +86,20 @@ module _ (a : Automaton) (w : WellFormed a) (c : is_complete a ≡ true) (prefix
   alike = record {
     inside = below;
     owners = λ v v<. elim (owner_turned (place_at a prefix period v)) [ inl e ↦ inl (ap (place_owner (turned a)) (places_same v) ∙ e) | inr e ↦ inr e ];
-    forth = λ v j v< j<. (j, subst (λ d. j < d) (degree_at v) j<, successor_at v j);
-    back = λ v k v< k<. (subst (λ d. k < d) (sym (degree_at v)) k<, successor_at v k);
+    forth = λ v j v< j<. (j, rw (degree_at v) at j<, successor_at v j);
+    back = λ v k v< k<. (rw (degree_at v) k<, successor_at v k);
   }
 
   favoured_next : (p : ℕ) → favoured H (p + 1) ≡ other (favoured G p)
   favoured_next p =
-      elim (parity p) [
-        | inl z ↦ favoured_odd H (p + 1) (omega arith) ∙ sym (ap other (favoured_even G p z))
-        | inr o ↦ favoured_even H (p + 1) (omega arith) ∙ sym (ap other (favoured_odd G p o))
-      ]
+      grind (arith, parity p, favoured_odd H (p + 1), favoured_even G p, favoured_even H (p + 1), favoured_odd G p)
 
   -- each state has the next priority, each node the same
-  abbrev Priorities : ℕ → ℕ → Type 0
-  Priorities p p' = ((p + 1 < 9999) × (p' ≡ p + 1)) ⊎ ((p ≡ 9999) × (p' ≡ 9999))
-
-  priorities : (v : ℕ) → v < G.count → Priorities (G.priority v) (H.priority v)
+  priorities : (v : ℕ) → v < G.count → Raised 1 9999 (G.priority v) (H.priority v)
   priorities v v< =
-      subst (λ P. Priorities (G.priority v) (place_priority (turned a) P)) (sym (places_same v))
-      (elim (word_known a f prefix period readable v v<) [
-        | inl (k, q, k<, q<, e) ↦ subst (λ P. Priorities (place_priority a P) (place_priority (turned a) P)) (sym e) (inl (omega (arith, f.low q q<), priority_raised a q q<))
-        | inr (k, x, k<, x<, e) ↦ subst (λ P. Priorities (place_priority a P) (place_priority (turned a) P)) (sym e) (inr (refl, refl))
-      ])
+      subst (λ P. Raised 1 9999 (G.priority v) (place_priority (turned a) P)) (sym (places_same v))
+      (word_each f readable (λ P. Raised 1 9999 (place_priority a P) (place_priority (turned a) P))
+      (λ k q _ q<. inl (omega (arith, f.low q q<), priority_raised a q q<)) (λ k x _ _. inr (refl, refl)) v v<)
 
   shifted : Shifted G H other (λ v. v) 1 9999
   shifted = record { favours = favoured_next; levels = λ v v<. priorities v (below v v<) }
@@ -117,24 +109,24 @@ module _ (a : Automaton) (w : WellFormed a) (c : is_complete a ≡ true) (prefix
     v = state_at a prefix period 0 q
 
     low : G.priority v < 9999
-    low = subst (λ P. place_priority a P < 9999) (sym (state_place a f prefix period readable 0 q (let h = readable.some in omega arith) q<)) (omega (arith, f.low q q<))
+    low = rw (state_place f readable 0 q (let h = readable.some in omega arith) q<) (omega (arith, f.low q q<))
 
     pub moves_turned : winner H v ≡ other (winner G v)
     moves_turned =
-        transfer G H (word_sound a f prefix period readable) (word_sound (turned a) f' prefix period readable) other (λ u. u) (λ u k. k) alike v
-        (subst (λ k. v < k) (sym counts_same) (start_in a f prefix period readable q q<)) (shifted_carries G H other (λ u. u) 1 9999 shifted v low)
+        transfer (word_sound f readable) (word_sound f' readable) alike v
+        (rw counts_same (start_in a f prefix period readable q q<)) (shifted_carries shifted v low)
 
 pub turning : Turning
 turning a w c prefix period r q q< =
     let f = formed a w c in
     let f' = turned_formed a w c in
-    let q<' : q < state_count (turned a) = subst (λ s. q < s) (sym (states_same a)) q< in
+    let q<' : q < state_count (turned a) = rw (states_same a) q< in
     let start : state_at (turned a) prefix period 0 q ≡ state_at a prefix period 0 q = (λ i. state_vertex (states_same a i) 0 q) in
-    let t = same_winner (turned a) f' prefix period r q q<' ∙ ap (winner (word_moves (turned a) prefix period)) start ∙ moves_turned a w c prefix period r q q< ∙ ap other (sym (same_winner a f prefix period r q q<)) in (
+    let t = same_winner f' r q q<' ∙ ap (winner (word_moves (turned a) prefix period)) start ∙ moves_turned a w c prefix period r q q< ∙ ap other (sym (same_winner f r q q<)) in (
       t,
-      (λ acc' acc. apart Zero (sym (accepted_wins (turned a) f' prefix period r q q<' acc') ∙ t ∙ ap other (accepted_wins a f prefix period r q q< acc))),
+      (λ acc' acc. apart Zero (sym (accepted_wins f' r q q<' acc') ∙ t ∙ ap other (accepted_wins f r q q< acc))),
       λ none. elim (which (winner (word_moves a prefix period) (state_at a prefix period 0 q)) Zero) [
-        | inl e ↦ absurd (none (won_accepts a f prefix period r q q< (same_winner a f prefix period r q q< ∙ e)))
-        | inr e ↦ won_accepts (turned a) f' prefix period r q q<' (t ∙ ap other (same_winner a f prefix period r q q< ∙ e))
+        | inl e ↦ absurd (none (won_accepts f r q q< (same_winner f r q q< ∙ e)))
+        | inr e ↦ won_accepts f' r q q<' (t ∙ ap other (same_winner f r q q< ∙ e))
       ],
     )

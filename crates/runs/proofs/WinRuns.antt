@@ -1,23 +1,22 @@
 -- Where player 0 wins the word game, her moves are an accepting run.
 use Rattle.std.proofs.Common.{◌≡◌, ℕ, zero, suc, ◌<◌, Bool, true, false, cond, ◌&&◌, ◌||◌, eqb, sym, refl, ap, ◌∙◌, subst, inl, inr, arith}
-use Rattle.std.proofs.lemmas.Bool.{cases_lt, cases_eq, cases_Bool, eq-eqb, ne_eqb, eqb-true, cond-true, cond-false, and_parts, or_cases, or_left, or_right, both_ways}
+use Rattle.std.proofs.lemmas.Bool.{cases_lt, cases_eq, cases_Bool, eq-eqb, ne_eqb, eqb-true, cond-true, cond-false, and_parts, or_cases, or_left, or_right}
 use Rattle.parity.specs.Below.{some_below}
-use Rattle.parity.specs.Determinacy.{reported}
 use Rattle.parity.specs.Game.{Game}
 use Rattle.parity.specs.Grading.{winner}
 use Rattle.parity.specs.Move.{move}
-use Rattle.parity.specs.Play.{Play, Winning}
 use Rattle.parity.specs.declared.player.Player.TheVariants.{Zero}
 use Rattle.parity.proofs.Below.{some_gives, some_from}
 use Rattle.parity.proofs.Determined.{reported_wins, move_legal}
 use Rattle.draft.specs.declared.parts.Node.{Node}
 use Rattle.draft.specs.declared.parts.Node.TheVariants.{Leaf, Either, Both}
-use Rattle.draft.specs.Automaton.{Automaton, state_count, node_count, priority_of, node_of}
+use Rattle.draft.specs.Automaton.{Automaton, state_count, node_count, node_of}
 use Rattle.draft.specs.WellFormed.{Fits}
 use Rattle.runs.specs.Models.{States, In, ◌⊆◌, Model, by_leaf, by_left, by_right, by_both, Minimal}
 use Rattle.runs.specs.Run.{rule_node, Run, RunPath, LeastEven, Accepts}
 use Rattle.runs.proofs.Moved.{Step, not_zero, free, taken, forced}
-use Rattle.runs.proofs.Passage.{Walk, last_step, first_step, passage, passage_plays, passage_follows, won_least}
+use Rattle.runs.proofs.Passage.{Walk, last_step, first_step}
+use Rattle.runs.proofs.StatePlays.{least}
 use Rattle.runs.proofs.Sets.{grows, minimal_inside}
 use Rattle.runs.proofs.WordArena.{NodeAt, WordArena, least_even}
 
@@ -27,8 +26,10 @@ pick (Leaf p) left picks q = eqb p q
 pick (Either l r) left picks q = cond left (picks l q) (picks r q)
 pick (Both l r) left picks q = picks l q || picks r q
 
-module _ (G : Game) (a : Automaton) (word : ℕ → ℕ) (st nd : ℕ → ℕ → ℕ) (arena : WordArena G a word st nd)
-    (m : ℕ → ℕ) (legal : (u : ℕ) → u < G.count → m u < G.degree u) where
+module _ {G : Game} {a : Automaton} {word : ℕ → ℕ} {st nd : ℕ → ℕ → ℕ} (arena : WordArena G a word st nd) where
+  abbrev m : ℕ → ℕ
+  m = move G
+
   -- the states that player 0's moves lead to from node x at step i, down to a depth of f
   picks : ℕ → ℕ → ℕ → States
   picks zero i x q = false
@@ -42,19 +43,14 @@ module _ (G : Game) (a : Automaton) (word : ℕ → ℕ) (st nd : ℕ → ℕ �
       left : Bool
       left = eqb (m (nd i x)) 0
 
-      into : (n : Node) → node_of a x ≡ n → (M : States) → M ⊆ pick n left (picks f i) → M ⊆ pick (node_of a x) left (picks f i)
-      into n e M s q h = ap (λ k. pick k left (picks f i) q) e ∙ s q h
-
-      go : (n : Node) → node_of a x ≡ n → Fits (state_count a) x n → ((y : ℕ) → y < x → Model a (In (picks f i y)) y) → Model a (In (pick (node_of a x) left (picks f i))) x
-      go (Leaf p) e _ rec = by_leaf e (ap (λ k. pick k left (picks f i) p) e ∙ eq-eqb p p refl)
+      go : (n : Node) → node_of a x ≡ n → Fits (state_count a) x n → ((y : ℕ) → y < x → Model a (In (picks f i y)) y) → Model a (In (pick n left (picks f i))) x
+      go (Leaf p) e _ rec = by_leaf e (eq-eqb p p refl)
       go (Either l r) e (l<, r<) rec =
           elim (cases_Bool left) [
-            | inl t ↦ by_left e (grows a (In (picks f i l)) _ (into (Either l r) e (picks f i l) (λ q h. cond-true left _ _ t ∙ h)) l (rec l l<))
-            | inr t ↦ by_right e (grows a (In (picks f i r)) _ (into (Either l r) e (picks f i r) (λ q h. cond-false left _ _ t ∙ h)) r (rec r r<))
+            | inl t ↦ by_left e (grows a (In (picks f i l)) _ (λ q h. cond-true left _ _ t ∙ h) l (rec l l<))
+            | inr t ↦ by_right e (grows a (In (picks f i r)) _ (λ q h. cond-false left _ _ t ∙ h) r (rec r r<))
           ]
-      go (Both l r) e (l<, r<) rec =
-          by_both e (grows a (In (picks f i l)) _ (into (Both l r) e (picks f i l) (λ q h. or_left _ _ h)) l (rec l l<))
-          (grows a (In (picks f i r)) _ (into (Both l r) e (picks f i r) (λ q h. or_right _ _ h)) r (rec r r<))
+      go (Both l r) e (l<, r<) rec = by_both e (grows a (In (picks f i l)) _ (λ q h. or_left _ _ h) l (rec l l<)) (grows a (In (picks f i r)) _ (λ q h. or_right _ _ h) r (rec r r<))
 
   -- whatever player 1 does, the play gets to a picked state
   abbrev Reaches : ℕ → ℕ → ℕ → Type 0
@@ -65,14 +61,14 @@ module _ (G : Game) (a : Automaton) (word : ℕ → ℕ) (st nd : ℕ → ℕ �
 
   picks_reach : (f i x q : ℕ) → x < node_count a → picks f i x q ≡ true → Reaches i x q
   unfolding picks
-  picks_reach zero i x q x< h = absurd (both_ways true (sym h) refl)
+  picks_reach zero i x q x< h = cc
   picks_reach (suc f) i x q x< h = go (node_of a x) h (arena.formed.named x x<) (arena.node_at i x x<) (λ y y< h'. picks_reach f i y q y< h')
     where
       left : Bool
       left = eqb (m (nd i x)) 0
 
       mine : m (nd i x) < G.degree (nd i x)
-      mine = legal (nd i x) (arena.node_in i x x<)
+      mine = move_legal G arena.sound _ (arena.node_in i x x<)
 
       go : (n : Node) → pick n left (picks f i) q ≡ true → Fits (state_count a) x n → NodeAt G st nd i x n →
           ((y : ℕ) → y < node_count a → picks f i y q ≡ true → Reaches i y q) → Reaches i x q
@@ -145,40 +141,15 @@ module _ (G : Game) (a : Automaton) (word : ℕ → ℕ) (st nd : ℕ → ℕ �
       ρ< : (i : ℕ) → ρ i < state_count a
       ρ< i = VIn i (ρ i) (run.from i (ρ i) (ρ (suc i)) (path.goes i))
 
-      abbrev head : ℕ → ℕ
-      head i = st i (ρ i)
-
-      abbrev p : ℕ → ℕ
-      p i = priority_of a (ρ i)
-
-      priorities : (i : ℕ) → G.priority (head i) ≡ p i
-      priorities i = arena.state_priority i (ρ i) (ρ< i)
-
-      low : (i : ℕ) → p i < 9999
-      low i = omega (arith, arena.formed.low (ρ i) (ρ< i))
-
-      walks : (i : ℕ) → Walk G m Zero (head i) (head (suc i))
+      ways : (i : ℕ) → Walk G m Zero (nd i (rule i (ρ i))) (st (suc i) (ρ (suc i)))
       unfolding E
-      walks i =
-          let s = forced G m Zero (head i) _ (legal _ (arena.state_in i (ρ i) (ρ< i))) (arena.state_degree i (ρ i) (ρ< i)) (arena.state_next i (ρ i) (ρ< i)) in
-          first_step G m Zero _ _ _ s (arena.node_high i _ (rule_in i (ρ i) (ρ< i))) (best_reach i (ρ i) (ρ (suc i)) (ρ< i) (and_parts (V i (ρ i)) _ (path.goes i)).1).1
+      ways i = (best_reach i (ρ i) (ρ (suc i)) (ρ< i) (and_parts (V i (ρ i)) _ (path.goes i)).1).1
 
       -- the play along a path of the run is one of player 0's moves
-      pub path_even : Winning G Zero (λ past u. m u) (st 0 start) → LeastEven a ρ
-      path_even w =
-          let plays = subst (λ q. Play G (st 0 q) (passage G m Zero head p priorities low walks)) path.starts (passage_plays G m Zero head p priorities low walks) in
+      path_even : winner G (st 0 start) ≡ Zero → LeastEven a ρ
+      path_even won =
           least_even G arena.even_zero a ρ
-          (won_least G m Zero head p priorities low walks Zero (w.wins _ plays (passage_follows G m Zero head p priorities low walks)))
+          (least arena Zero ρ ρ< ways (reported_wins G arena.sound _ (arena.state_in 0 (ρ 0) (ρ< 0)) Zero (ap (λ q. winner G (st 0 q)) path.starts ∙ won)))
 
-pub win_runs : (G : Game) (a : Automaton) (word : ℕ → ℕ) (st nd : ℕ → ℕ → ℕ) → WordArena G a word st nd →
-    (start : ℕ) → start < state_count a → winner G (st 0 start) ≡ Zero → Accepts a word start
-win_runs G a word st nd arena start start< e = record {
-  vertices = V G a word st nd arena (move G) legal start start<;
-  edges = E G a word st nd arena (move G) legal start start<;
-  run = run G a word st nd arena (move G) legal start start<;
-  even = λ ρ path. path_even G a word st nd arena (move G) legal start start< ρ path
-      (subst (λ x. Winning G x (reported G) (st 0 start)) e (reported_wins G arena.sound (st 0 start) (arena.state_in 0 start start<)));
-}
-  where
-    legal : (u : ℕ) → u < G.count → move G u < G.degree u
-    legal = move_legal G arena.sound
+    pub win_runs : winner G (st 0 start) ≡ Zero → Accepts a word start
+    win_runs won = record { vertices = V; edges = E; run = run; even = λ ρ path. path_even ρ path won }

@@ -1,17 +1,18 @@
 -- The word game of an automaton and a repeating word is a game in which that word is read.
-use Rattle.std.proofs.Common.{◌≡◌, ℕ, zero, suc, ◌<◌, ◌≤◌, List, sym, refl, ap, ◌∙◌, subst, inl, inr, arith}
+use Rattle.std.proofs.Common.{◌≡◌, ℕ, zero, suc, ◌<◌, ◌≤◌, List, refl, ap, ◌∙◌, arith}
 use Rattle.parity.specs.Game.{Game, Sound}
 use Rattle.draft.specs.declared.parts.Node.{Node}
 use Rattle.draft.specs.declared.parts.Node.TheVariants.{Leaf, Either, Both}
 use Rattle.draft.specs.Automaton.{Automaton, state_count, node_count, node_of}
 use Rattle.draft.specs.WellFormed.{Fits}
+use Rattle.runs.specs.declared.place.WordPlace.{WordPlace}
 use Rattle.runs.specs.declared.place.WordPlace.TheVariants.{AtState, AtNode}
 use Rattle.runs.specs.Word.{letter, Readable}
 use Rattle.runs.specs.Run.{rule_node}
 use Rattle.runs.specs.WordGame.{steps, next_step, node_owner, node_degree, side, place_owner, place_priority, place_degree, state_at, node_at, place_at, node_successor, place_successor, word_moves}
 use Rattle.runs.proofs.Folds.{fold, fold_in, next_in, letter_same, letter_in}
 use Rattle.runs.proofs.Formed.{Formed}
-use Rattle.runs.proofs.Tables.{Known, known, first_place, second_place, first_in, second_in}
+use Rattle.runs.proofs.Tables.{each_place, first_place, second_place, first_in, second_in}
 use Rattle.runs.proofs.WordArena.{NodeAt, WordArena}
 
 pub side_below : (l r x i : ℕ) → l < x → r < x → side l r i < x
@@ -23,7 +24,7 @@ degree_within (Leaf q) = (omega arith, omega arith)
 degree_within (Either l r) = (omega arith, omega arith)
 degree_within (Both l r) = (omega arith, omega arith)
 
-module _ (a : Automaton) (formed : Formed a) (prefix period : List ℕ) (readable : Readable a.letters prefix period) where
+module _ {a : Automaton} (formed : Formed a) {prefix period : List ℕ} (readable : Readable a.letters prefix period) where
   abbrev G : Game
   G = word_moves a prefix period
 
@@ -36,8 +37,9 @@ module _ (a : Automaton) (formed : Formed a) (prefix period : List ℕ) (readabl
   abbrev m : ℕ
   m = node_count a
 
-  pub word_known : (v : ℕ) → v < G.count → Known AtState AtNode n s n m v
-  word_known = known AtState AtNode n s n m
+  pub word_each : (Q : WordPlace → Type 0) → ((k q : ℕ) → k < n → q < s → Q (AtState k q)) → ((k x : ℕ) → k < n → x < m → Q (AtNode k x)) →
+      (v : ℕ) → v < G.count → Q (place_at a prefix period v)
+  word_each = each_place AtState AtNode n s n m
 
   pub state_place : (k q : ℕ) → k < n → q < s → place_at a prefix period (state_at a prefix period k q) ≡ AtState k q
   state_place = first_place AtState AtNode n s n m
@@ -61,14 +63,10 @@ module _ (a : Automaton) (formed : Formed a) (prefix period : List ℕ) (readabl
 
   pub word_sound : Sound G
   word_sound = record {
-    moves = λ v v<. elim (word_known v v<) [
-      | inl (k, q, k<, q<, e) ↦ subst (λ P. 0 < place_degree a P) (sym e) (omega arith)
-      | inr (k, x, k<, x<, e) ↦ subst (λ P. 0 < place_degree a P) (sym e) (degree_within (node_of a x)).0
-    ];
-    stays = λ v i v< _. elim (word_known v v<) [
-      | inl (k, q, k<, q<, e) ↦ subst (λ P. place_successor a prefix period P i < G.count) (sym e) (node_in k _ k< (formed.ruled q _ q< (letter_fits k)))
-      | inr (k, x, k<, x<, e) ↦ subst (λ P. place_successor a prefix period P i < G.count) (sym e) (node_stays k x i k< x< (node_of a x) (formed.named x x<))
-    ];
+    moves = word_each (λ P. 0 < place_degree a P) (λ k q _ _. omega arith) (λ k x _ _. (degree_within (node_of a x)).0);
+    stays = λ v i v< _. word_each (λ P. place_successor a prefix period P i < G.count)
+        (λ k q k< q<. node_in k _ k< (formed.ruled q _ q< (letter_fits k)))
+        (λ k x k< x<. node_stays k x i k< x< (node_of a x) (formed.named x x<)) v v<;
   }
 
   -- the vertices at step i of the unending word
@@ -88,24 +86,16 @@ module _ (a : Automaton) (formed : Formed a) (prefix period : List ℕ) (readabl
   folded_node i x x< = node_place (fold prefix period i) x x<
 
   node_kind : (i x : ℕ) → x < m → NodeAt G st nd i x (node_of a x)
-  node_kind i x x< = go (node_of a x) refl
+  node_kind i x x< = go (node_of a x) (ap (place_owner a) here) (ap (place_degree a) here) (λ j. ap (λ P. place_successor a prefix period P j) here)
     where
       here : place_at a prefix period (nd i x) ≡ AtNode (fold prefix period i) x
       here = folded_node i x x<
 
-      own : (t : Node) → node_of a x ≡ t → G.owner (nd i x) ≡ node_owner t
-      own t e = ap (place_owner a) here ∙ ap node_owner e
-
-      degree : (t : Node) → node_of a x ≡ t → G.degree (nd i x) ≡ node_degree t
-      degree t e = ap (place_degree a) here ∙ ap node_degree e
-
-      next : (t : Node) → node_of a x ≡ t → (j : ℕ) → G.successor (nd i x) j ≡ node_successor a prefix period (fold prefix period i) t j
-      next t e j = ap (λ P. place_successor a prefix period P j) here ∙ ap (λ k. node_successor a prefix period (fold prefix period i) k j) e
-
-      go : (t : Node) → node_of a x ≡ t → NodeAt G st nd i x t
-      go (Leaf q) e = (degree (Leaf q) e, next (Leaf q) e 0 ∙ (unfold fold in refl))
-      go (Either l r) e = (own (Either l r) e, degree (Either l r) e, next (Either l r) e 0, next (Either l r) e 1)
-      go (Both l r) e = (own (Both l r) e, degree (Both l r) e, next (Both l r) e 0, next (Both l r) e 1)
+      go : (t : Node) → G.owner (nd i x) ≡ node_owner t → G.degree (nd i x) ≡ node_degree t →
+          ((j : ℕ) → G.successor (nd i x) j ≡ node_successor a prefix period (fold prefix period i) t j) → NodeAt G st nd i x t
+      go (Leaf q) own degree next = (degree, next 0 ∙ (unfold fold in refl))
+      go (Either l r) own degree next = (own, degree, next 0, next 1)
+      go (Both l r) own degree next = (own, degree, next 0, next 1)
 
   pub word_arena : WordArena G a (letter prefix period) st nd
   word_arena = record {

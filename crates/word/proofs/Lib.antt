@@ -1,4 +1,3 @@
 pub mod Asked
-pub mod StepOf
 pub mod Judging
 pub mod Opposed

@@ -7,6 +7,6 @@ mod verdict;
 mod word;
 
 pub use accepting::accept;
-pub use letters::step;
+pub use letters::Word;
 pub use verdict::Verdict;
-pub use word::{WordArena, ask, make};
+pub use word::{MOST_VERTICES, WordArena, ask, make};

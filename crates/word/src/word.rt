@@ -1,39 +1,36 @@
 // The word arena of a draft and a repeating word: a view of both, without a copy.
-ghost use Rattle.std.specs.Prelude.{◌≡◌, ◌+◌, ◌*◌, ◌<◌, ◌≤◌, true, ◌&&◌, length};
+ghost use Rattle.std.specs.Prelude.{◌≡◌, ◌<◌, ◌≤◌, true, ◌&&◌, length};
 ghost use Rattle.draft.specs.Automaton.{state_count, node_count, is_complete};
 ghost use Rattle.draft.specs.Meaning.{meaning as automaton};
+ghost use Rattle.runs.specs.WordGame.{steps};
 ghost use Rattle.word.specs.Asking.{letters_known};
 
+use crate::letters::Word;
+use arena::Grid;
 use draft::Draft;
 
 mod answers;
-mod grid;
 mod maker;
 
-// The states and nodes at each step of the prefix and of one period; the sizes are kept to answer fast.
+// The states and the nodes at each step of the prefix and of one period: a row for each step, and after the states the nodes.
 #[derive(Clone, Copy)]
 pub struct WordArena<'a> {
     draft: &'a Draft,
-    prefix: &'a [u8],
-    period: &'a [u8],
-    steps: usize,
-    states: usize,
-    nodes: usize,
-    // how many vertices are states
-    stated: usize,
-    count: usize,
-    ghost steps_are: { steps ≡ length prefix.now + length period.now },
-    ghost states_are: { states ≡ state_count (automaton draft.now) },
-    ghost nodes_are: { nodes ≡ node_count (automaton draft.now) },
-    ghost stated_are: { stated ≡ steps * states },
-    ghost count_is: { count ≡ stated + steps * nodes },
-    ghost some: { 0 < count },
+    word: Word<'a>,
+    states: Grid,
+    nodes: Grid,
+    ghost state_rows: { states.rows ≡ steps word.prefix.now word.period.now },
+    ghost state_columns: { states.columns ≡ state_count (automaton draft.now) },
+    ghost node_rows: { nodes.rows ≡ steps word.prefix.now word.period.now },
+    ghost node_columns: { nodes.columns ≡ node_count (automaton draft.now) },
     ghost complete: { is_complete (automaton draft.now) ≡ true },
-    ghost some_state: { 0 < states },
-    ghost some_node: { 0 < nodes },
-    ghost some_period: { 0 < length period.now },
-    ghost short: { steps ≤ 64 },
-    ghost known: { (letters_known (automaton draft.now).letters prefix.now && letters_known (automaton draft.now).letters period.now) ≡ true },
+    ghost some_state: { 0 < state_count (automaton draft.now) },
+    ghost some_period: { 0 < length word.period.now },
+    ghost short: { steps word.prefix.now word.period.now ≤ 64 },
+    ghost known: { (letters_known (automaton draft.now).letters word.prefix.now && letters_known (automaton draft.now).letters word.period.now) ≡ true },
 }
+
+// As many vertices as the arena of a word can have: at each of 64 letters 32 states and 128 nodes.
+pub const MOST_VERTICES: usize = 64 * (32 + 128);
 
 pub use maker::{ask, make};

@@ -1,25 +1,20 @@
 // How a draft begins, and its states.
-ghost use Rattle.std.specs.Prelude.{◌≡◌, ◌≤◌, IfOk};
+ghost use Rattle.std.specs.Prelude.{◌≡◌, IfOk};
 ghost use Rattle.draft.specs.Automaton.{empty};
-ghost use Rattle.draft.specs.Calls.{letters_fit, begin_with, add_state};
+ghost use Rattle.draft.specs.Calls.{begin_with, add_state};
 ghost use Rattle.draft.specs.History.{HistoriesKeep};
 ghost use Rattle.draft.specs.Meaning.{meaning};
 
 use super::Draft;
+use super::letters::Letters;
 use crate::parts::State;
 use refusal::Refusal;
 use std::alloc::{AllocError, Global};
 
-// Whether a draft can have so many letters.
-pub(crate) fn letters_fit(letters: u32) -> bool
-    ensures { result ≡ letters_fit letters }
-{
-    letters >= 1 && letters <= 16
-}
-
 impl Draft {
     // An empty draft with one letter, and room for all that a draft can hold. `kept` is the law of every draft
     // that calls make from a new one.
+    #[tactic(auto, using(crate::proofs::Histories::histories_keep))]
     pub fn new(heap: Global) -> Result<Draft, AllocError>
         ensures made { IfOk result (λ d. meaning d ≡ empty 1) }
         ensures kept { HistoriesKeep }
@@ -37,19 +32,15 @@ impl Draft {
     pub fn begin(&mut self, letters: u32) -> Result<(), Refusal>
         ensures { (result, meaning self.new) ≡ begin_with (meaning self.old) letters }
     {
-        if !letters_fit(letters) {
-            return Err(Refusal::Letters);
-        }
-        self.restart(letters as u8);
+        self.restart(Letters::try_from(letters)?);
         Ok(())
     }
 
-    // Empties the draft and sets its letters, which are 1 to 16.
-    pub(crate) fn restart(&mut self, letters: u8)
-        requires { (1 ≤ letters) × (letters ≤ 16) }
-        ensures { meaning self.new ≡ empty letters }
+    // Empties the draft and sets its letters.
+    pub(crate) fn restart(&mut self, letters: Letters)
+        ensures { meaning self.new ≡ empty letters.count }
     {
-        self.letters = letters;
+        self.letters = letters.count;
         self.states.clear();
         self.nodes.clear();
     }

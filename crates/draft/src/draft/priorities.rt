@@ -13,24 +13,19 @@ impl Draft {
     pub fn regrade(&mut self, state: u16, priority: u16) -> Result<(), Refusal>
         ensures { (result, meaning self.new) ≡ set_priority (meaning self.old) state priority }
     {
-        if state as usize >= self.states.len() {
-            return Err(Refusal::NoState);
-        }
+        let state = self.known_state(state)?;
         if priority > 999 {
             return Err(Refusal::Priority);
         }
-        self.states[state as usize].priority = priority;
+        self.states[usize::from(state)].priority = priority;
         Ok(())
     }
 
-    // The priority of a state, or 0 where there is no such state.
+    // The priority of a state, or 0 where there is no such state, as the definition has it.
     pub fn priority_at(&self, state: usize) -> u16
         ensures { result ≡ priority_of (meaning self.now) state }
     {
-        if state >= self.states.len() {
-            return 0;
-        }
-        self.states[state].priority
+        self.states.get(state).map_or(0, |s| s.priority)
     }
 
     // Exchanges either and both throughout, and adds 1 to every priority.
@@ -50,20 +45,15 @@ impl Draft {
 fn all_below_top(states: &[State]) -> bool
     ensures { result ≡ can_turn states.now }
 {
-    for s in states {
-        if s.priority >= 999 {
-            return false;
-        }
-    }
-    true
+    states.iter().all(|s| s.priority < 999)
 }
 
-// Adds 1 to every priority.
+// Adds 1 to every priority. It and `turn_nodes` are no one function over a closure: that the sum fits would become a clause of it.
 fn raise_states(states: &mut [State])
     requires { can_turn states.old ≡ true }
     ensures { states.new ≡ map raised states.old }
 {
-    for s in states.iter_mut() {
+    for s in states {
         s.priority += 1;
     }
 }
@@ -72,18 +62,7 @@ fn raise_states(states: &mut [State])
 fn turn_nodes(nodes: &mut [Node])
     ensures { nodes.new ≡ map dual nodes.old }
 {
-    for n in nodes.iter_mut() {
-        *n = turned(*n);
-    }
-}
-
-// The node with either and both exchanged.
-fn turned(node: Node) -> Node
-    ensures { result ≡ dual node }
-{
-    match node {
-        Node::Leaf(state) => Node::Leaf(state),
-        Node::Either(left, right) => Node::Both(left, right),
-        Node::Both(left, right) => Node::Either(left, right),
+    for n in nodes {
+        *n = n.dual();
     }
 }

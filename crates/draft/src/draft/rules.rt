@@ -12,16 +12,12 @@ impl Draft {
     pub fn rule(&mut self, state: u16, letter: u8, node: u16) -> Result<(), Refusal>
         ensures { (result, meaning self.new) ≡ set_rule (meaning self.old) state letter node }
     {
-        if state as usize >= self.states.len() {
-            return Err(Refusal::NoState);
-        }
+        let state = self.known_state(state)?;
         if letter >= self.letters {
             return Err(Refusal::NoLetter);
         }
-        if node as usize >= self.nodes.len() {
-            return Err(Refusal::NoNode);
-        }
-        self.states[state as usize].rules[letter as usize] = Some(node as u8);
+        let node = self.known_node(node)?;
+        self.states[usize::from(state)].rules[usize::from(letter)] = Some(node);
         Ok(())
     }
 
@@ -29,36 +25,20 @@ impl Draft {
     pub fn rule_at(&self, state: usize, letter: u8) -> Option<u8>
         ensures { result ≡ rule_of (meaning self.now) state letter }
     {
-        if state >= self.states.len() {
-            return None;
-        }
-        if letter >= 16 {
-            return None;
-        }
-        self.states[state].rules[letter as usize]
+        *self.states.get(state)?.rules.get(usize::from(letter))?
     }
 
     // Whether a state has a rule for each letter.
     pub fn ruled(&self, state: usize) -> bool
         ensures { result ≡ is_ruled (meaning self.now) state }
     {
-        for letter in 0..self.letters {
-            if self.rule_at(state, letter).is_none() {
-                return false;
-            }
-        }
-        true
+        (0..self.letters).all(|letter| self.rule_at(state, letter).is_some())
     }
 
     // Whether each state has a rule for each letter.
     pub fn complete(&self) -> bool
         ensures { result ≡ is_complete (meaning self.now) }
     {
-        for state in 0..self.states.len() {
-            if !self.ruled(state) {
-                return false;
-            }
-        }
-        true
+        (0..self.states.len()).all(|state| self.ruled(state))
     }
 }

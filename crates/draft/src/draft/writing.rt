@@ -1,6 +1,7 @@
 // A draft as the records of a file.
 ghost use Rattle.std.specs.Prelude.{◌≡◌, ◌≤◌, ◌++◌, map, length, IfOk, OnOk};
 ghost use Rattle.std.specs.List.{flat_map};
+ghost use Rattle.draft.specs.declared.records.Call.{Call};
 ghost use Rattle.draft.specs.Meaning.{meaning};
 ghost use Rattle.draft.specs.Written.{encoded, state_call, node_call, rule_call, rule_calls, all_rule_calls, written, WrittenLoads};
 
@@ -9,16 +10,45 @@ use crate::parts::{Node, State};
 use crate::records::{Call, encode};
 use std::alloc::{AllocError, Global};
 
+// A part of a draft that one call adds.
+trait Part {
+    ghost adding: { Self → Call };
+
+    fn call(&self) -> Call
+        ensures { result ≡ adding self.now };
+}
+
+impl Part for State {
+    ghost adding = { state_call };
+
+    fn call(&self) -> Call {
+        Call::State(self.priority)
+    }
+}
+
+impl Part for Node {
+    ghost adding = { node_call };
+
+    fn call(&self) -> Call {
+        match *self {
+            Node::Leaf(state) => Call::Leaf(u16::from(state)),
+            Node::Either(left, right) => Call::Either(u16::from(left), u16::from(right)),
+            Node::Both(left, right) => Call::Both(u16::from(left), u16::from(right)),
+        }
+    }
+}
+
 impl Draft {
     // The draft as records: its states, then its nodes, then its rules by state and letter. `loads` is the law
     // that such records load back to the same draft.
+    #[tactic(auto, using(crate::proofs::Reloads::written_loads))]
     pub fn records(&self, heap: Global) -> Result<Vec<u8>, AllocError>
         ensures made { IfOk result (λ v. v.items ≡ written (meaning self.now)) }
         ensures loads { WrittenLoads }
     {
         let mut out = Vec::new(heap);
-        put_states(&mut out, &self.states)?;
-        put_nodes(&mut out, &self.nodes)?;
+        put_each(&mut out, &self.states)?;
+        put_each(&mut out, &self.nodes)?;
         put_all_rules(&mut out, &self.states)?;
         Ok(out)
     }
@@ -31,38 +61,18 @@ fn put(out: &mut Vec<u8>, call: Call) -> Result<(), AllocError>
     out.extend_from_slice(&encode(call))
 }
 
-// Adds a record for each state.
-fn put_states(out: &mut Vec<u8>, states: &[State]) -> Result<(), AllocError>
-    ensures { OnOk result (out.new.items ≡ out.old.items ++ flat_map encoded (map state_call states.now)) }
+// Adds the record of each part.
+fn put_each<P: Part>(out: &mut Vec<u8>, parts: &[P]) -> Result<(), AllocError>
+    ensures { OnOk result (out.new.items ≡ out.old.items ++ flat_map encoded (map P.adding parts.now)) }
 {
-    for s in states {
-        put(out, Call::State(s.priority))?;
+    for part in parts {
+        put(out, part.call())?;
     }
     Ok(())
-}
-
-// Adds a record for each node.
-fn put_nodes(out: &mut Vec<u8>, nodes: &[Node]) -> Result<(), AllocError>
-    ensures { OnOk result (out.new.items ≡ out.old.items ++ flat_map encoded (map node_call nodes.now)) }
-{
-    for n in nodes {
-        put(out, call_of(*n))?;
-    }
-    Ok(())
-}
-
-// The call that adds a node.
-fn call_of(node: Node) -> Call
-    ensures { result ≡ node_call node }
-{
-    match node {
-        Node::Leaf(state) => Call::Leaf(u16::from(state)),
-        Node::Either(left, right) => Call::Either(u16::from(left), u16::from(right)),
-        Node::Both(left, right) => Call::Both(u16::from(left), u16::from(right)),
-    }
 }
 
 // Adds a record for each rule.
+#[tactic(auto, using(crate::proofs::Puts::rule_steps))]
 fn put_all_rules(out: &mut Vec<u8>, states: &[State]) -> Result<(), AllocError>
     requires { length states.now ≤ 32 }
     ensures { OnOk result (out.new.items ≡ out.old.items ++ flat_map encoded (all_rule_calls 0 states.now)) }
@@ -74,6 +84,7 @@ fn put_all_rules(out: &mut Vec<u8>, states: &[State]) -> Result<(), AllocError>
 }
 
 // Adds a record for each rule of a state.
+#[tactic(auto, using(crate::proofs::Puts::rule_steps))]
 fn put_rules(out: &mut Vec<u8>, state: u16, rules: &[Option<u8>; 16]) -> Result<(), AllocError>
     ensures { OnOk result (out.new.items ≡ out.old.items ++ flat_map encoded (rule_calls state 0 rules.now)) }
 {
@@ -87,8 +98,8 @@ fn put_rules(out: &mut Vec<u8>, state: u16, rules: &[Option<u8>; 16]) -> Result<
 fn put_rule(out: &mut Vec<u8>, state: u16, letter: u8, rule: Option<u8>) -> Result<(), AllocError>
     ensures { OnOk result (out.new.items ≡ out.old.items ++ flat_map encoded (rule_call state letter rule)) }
 {
-    match rule {
-        None => Ok(()),
-        Some(node) => put(out, Call::Rule(state, letter, u16::from(node))),
+    if let Some(node) = rule {
+        put(out, Call::Rule(state, letter, u16::from(node)))?;
     }
+    Ok(())
 }

@@ -4,48 +4,50 @@ ghost use Rattle.draft.specs.Meaning.{meaning as automaton};
 ghost use Rattle.word.specs.Asking.{asked};
 
 use super::WordArena;
-use crate::letters::all_known;
-use draft::Draft;
+use crate::letters::Word;
+use arena::Grid;
+use draft::Start;
 use refusal::Refusal;
 
 // The questions of accept but for the room: the draft is complete, the state exists, the period has a letter and both pieces
 // together at most 64, and each letter exists.
-pub fn ask(draft: &Draft, state: usize, prefix: &[u8], period: &[u8]) -> Result<(), Refusal>
-    ensures { result ≡ asked (automaton draft.now) state prefix.now period.now }
+pub fn ask(start: Start<'_>, word: Word<'_>) -> Result<(), Refusal>
+    ensures { result ≡ asked (automaton start.entry.draft.now) start.entry.state word.entry.prefix.now word.entry.period.now }
 {
-    if !draft.complete() {
+    if !start.draft.complete() {
         return Err(Refusal::Incomplete);
     }
-    if state >= draft.state_count() {
+    if start.state >= start.draft.state_count() {
         return Err(Refusal::NoState);
     }
-    if period.is_empty() || period.len() > 64 || prefix.len() > 64 - period.len() {
+    if word.period.is_empty() || word.steps() > 64 {
         return Err(Refusal::Word);
     }
-    let letters = draft.letters();
-    if !all_known(letters, prefix) || !all_known(letters, period) {
+    if !word.known(start.draft.letters()) {
         return Err(Refusal::NoLetter);
     }
     Ok(())
 }
 
 // The arena of a word that was asked about.
-pub fn make<'a>(draft: &'a Draft, state: usize, prefix: &'a [u8], period: &'a [u8]) -> WordArena<'a>
-    requires { asked (automaton draft.now) state prefix.now period.now ≡ Ok tt }
-    ensures { (automaton result.draft.now ≡ automaton draft.now) × ((result.prefix.now ≡ prefix.now) × (result.period.now ≡ period.now)) }
+pub fn make<'a>(start: Start<'a>, word: Word<'a>) -> WordArena<'a>
+    requires { asked (automaton start.draft.now) start.state word.prefix.now word.period.now ≡ Ok tt }
+    ensures { (automaton result.draft.now ≡ automaton start.entry.draft.now) × ((result.word.prefix.now ≡ word.entry.prefix.now) × (result.word.period.now ≡ word.entry.period.now)) }
 {
-    let steps = prefix.len() + period.len();
-    let states = draft.state_count();
-    let nodes = draft.node_count();
-    let stated = steps * states;
+    let draft = start.draft;
+    let rows = word.steps() as u8;
+    let states = draft.state_count() as u8;
+    let nodes = draft.node_count() as u8;
     WordArena {
         draft,
-        prefix,
-        period,
-        steps,
-        states,
-        nodes,
-        stated,
-        count: stated + steps * nodes,
+        word,
+        states: Grid {
+            rows,
+            columns: states,
+        },
+        nodes: Grid {
+            rows,
+            columns: nodes,
+        },
     }
 }

@@ -1,21 +1,15 @@
--- The loop finds the first state that lacks a rule, or none.
-use Rattle.std.proofs.Common.{◌<◌, ◌≤◌, sym, arith, below_more}
-use Rattle.draft.specs.Automaton.{is_complete, state_count}
+-- The chain tests the states in order.
+use Rattle.std.proofs.Common.{◌∙◌, arith, rules}
+use Rattle.std.proofs.lemmas.Iterator.{YieldsList-from_range}
+use Rattle.std.proofs.lemmas.Iterator.Search.{all_from_yields_List}
+use Rattle.draft.specs.Automaton.{state_count, is_ruled, is_complete}
 use Rattle.draft.specs.Meaning.{meaning}
-use Rattle.draft.proofs.AllBelow.{one_fails, none_fails}
+use Rattle.draft.proofs.AllBelow.{all_in_range}
 use Rattle.draft.proofs.draft.Draft.complete.Goals as goal
-
-pub loop-state-preserved : goal.loop-state-preserved
-loop-state-preserved c = below_more _ _ c.loop-state.invariant (sym c.if-not-ruled.ensures)
-
-pub returns-then-not-ruled : goal.returns-then-not-ruled
-unfolding is_complete
-returns-then-not-ruled c =
-    let l : c.loop-state.state < state_count (meaning c.args.self.now) = omega (arith, c.args.self.now.states.ok.0) in
-    one_fails _ _ _ l (sym c.if-not-ruled.ensures)
 
 pub returns : goal.returns
 unfolding is_complete
 returns c =
-    let l : state_count (meaning c.args.self.now) ≤ c.loop-state.state = omega (arith, c.args.self.now.states.ok.0) in
-    none_fails _ _ _ l c.loop-state.invariant
+    let n = state_count (meaning c.args.self.now) in
+    let f = is_ruled (meaning c.args.self.now) in
+    all_from_yields_List f _ _ _ c.all.ensures.ran (YieldsList-from_range 0 n n (cc) (omega arith)) (λ x b q k. search rules) ∙ all_in_range n f

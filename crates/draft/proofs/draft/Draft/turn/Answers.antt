@@ -14,9 +14,3 @@ invariant_of-self c =
     let can : can_turn (vec_items c.args.self.now.states) ≡ true = search rules in
     let w = turn_keeps_as (meaning c.args.self.now) _ _ (draft_well_formed c.args.self.now) can s n in
     search rules
-
-pub returns : goal.returns
-returns c =
-    let s = refilled_map raised c.args.self.now.states _ _ c.deref_mut.ensures.value c.raise_states.ensures in
-    let n = refilled_map dual c.args.self.now.nodes _ _ c.deref_mut-2.ensures.value c.turn_nodes.ensures in
-    search rules

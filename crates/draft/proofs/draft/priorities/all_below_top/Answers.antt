@@ -1,17 +1,15 @@
--- The loop finds the first priority of 999, or none.
-use Rattle.std.proofs.Common.{below_more}
-use Rattle.std.proofs.lemmas.Bool.{lt-ltb, le-ltb}
+-- The chain tests the states in order.
+use Rattle.std.proofs.Common.{ltb, ◌∙◌, rules}
+use Rattle.std.proofs.lemmas.Iterator.{YieldsList-from_slice}
+use Rattle.std.proofs.lemmas.Iterator.Search.{all_from_yields_List}
+use Rattle.draft.specs.declared.parts.State.{State}
+use Rattle.draft.specs.Automaton.{blank}
 use Rattle.draft.specs.Calls.{can_turn}
-use Rattle.draft.proofs.AllBelow.{one_fails, none_fails}
+use Rattle.draft.proofs.AllBelow.{all_listed}
 use Rattle.draft.proofs.draft.priorities.all_below_top.Goals as goal
-
-pub loop-s-preserved : goal.loop-s-preserved
-loop-s-preserved c = below_more _ _ c.loop-s.invariant (lt-ltb _ _ c.if-s-ge999.false)
-
-pub returns-then-s-ge999 : goal.returns-then-s-ge999
-unfolding can_turn
-returns-then-s-ge999 c = one_fails _ _ _ c.loop-s-test.true (le-ltb _ _ c.if-s-ge999.true)
 
 pub returns : goal.returns
 unfolding can_turn
-returns c = none_fails _ _ _ c.loop-s-test.false c.loop-s.invariant
+returns c =
+    let low = λ (s : State). ltb s.priority 999 in
+    all_from_yields_List low _ _ _ c.all.ensures.ran (YieldsList-from_slice c.args.states.now cc) (λ x b q k. search rules) ∙ all_listed low c.args.states.now blank

@@ -4,4 +4,4 @@ use Rattle.draft.specs.Calls.{raised}
 use Rattle.draft.proofs.draft.priorities.raise_states.Given as goal
 
 abbrev pub invariant-loop-s : goal.invariant-loop-s
-invariant-loop-s l = l.states ≡ map raised (take l.s-index l.initial.states) ++ drop l.s-index l.initial.states
+invariant-loop-s l = l.s-items ≡ map raised (take l.s-index l.fn.states) ++ drop l.s-index l.fn.states

@@ -4,4 +4,4 @@ use Rattle.draft.specs.Calls.{dual}
 use Rattle.draft.proofs.draft.priorities.turn_nodes.Given as goal
 
 abbrev pub invariant-loop-n : goal.invariant-loop-n
-invariant-loop-n l = l.nodes ≡ map dual (take l.n-index l.initial.nodes) ++ drop l.n-index l.initial.nodes
+invariant-loop-n l = l.n-items ≡ map dual (take l.n-index l.fn.nodes) ++ drop l.n-index l.fn.nodes

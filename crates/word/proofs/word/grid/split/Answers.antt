@@ -1,9 +1,0 @@
-use Rattle.std.proofs.Common.{◌/◌, ◌<◌, arith, rules}
-use Rattle.std.proofs.lemmas.Nat.{div_below}
-use Rattle.word.proofs.word.grid.split.Goals as goal
-
-pub overflow_cast-result : goal.overflow_cast-result
-overflow_cast-result c =
-    let row : c.args.v / c.args.width < 64 = div_below c.args.v c.args.width 64 c.requires.0 c.requires.1.1 in
-    let small : c.args.v / c.args.width < 256 = omega arith in
-    search rules

@@ -1,2 +1,3 @@
--- The definition of the answer.
+-- The definitions, those that others cite first.
 pub mod HostAnswer
+pub mod Faults

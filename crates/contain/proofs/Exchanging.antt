@@ -1,6 +1,7 @@
 -- Both automata turned and exchanged: the questions come to the same refusal or to the same verdict.
-use Rattle.std.proofs.Common.{◌≡◌, ℕ, ◌+◌, ◌*◌, Bool, true, false, cond, eqb, ltb, leb, List, length, Ok, Err, sym, refl, ap, ◌∙◌, ap₂, inl, inr, mul_comm}
-use Rattle.std.proofs.lemmas.Bool.{both_ways, cases_eq, eq-eqb, ne_eqb, eqb-true, ltb-true}
+use Rattle.std.proofs.Common.{◌≡◌, ℕ, ◌+◌, ◌*◌, Bool, true, cond, eqb, ltb, leb, List, length, Ok, Err, ap, ◌∙◌, ap₂, mul_comm, arith}
+use Rattle.std.proofs.lemmas.Bool.Decides.{nat_tests}
+use Rattle.std.proofs.lemmas.Bool.{eqb-true, ltb-true}
 use Rattle.refusal.specs.declared.Refusal.TheVariants.{Room}
 use Rattle.game.specs.declared.outcome.Outcome.{Outcome}
 use Rattle.game.specs.Outcomes.{solved}
@@ -19,7 +20,7 @@ use Rattle.contain.specs.Containing.{Answer, verdict_of, once_asked, once_solved
 use Rattle.contain.specs.ExchangeOfAnswers.{said, ExchangeOfAnswers}
 
 eqb_exchanged : (m n : ℕ) → eqb m n ≡ eqb n m
-eqb_exchanged m n = elim (cases_eq m n) [ inl e ↦ eq-eqb m n e ∙ sym (eq-eqb n m (sym e)) | inr d ↦ ne_eqb m n d ∙ sym (ne_eqb n m (λ e. d (sym e))) ]
+eqb_exchanged m n = grind (arith, nat_tests)
 
 -- the same answers, in the order of the one draft and then the other, and in the order exchanged
 module _ (X Y : Answer) (xs ys : List Outcome) where
@@ -28,24 +29,11 @@ module _ (X Y : Answer) (xs ys : List Outcome) where
 
   questions : (t u l v w y z : Bool) → (t ≡ true → u ≡ true → l ≡ true → v ≡ true → w ≡ true → said X.0 ≡ said Y.0) → Same t u l v w y z
   unfolding Same
-  questions false false l v w y z h = refl
-  questions false true l v w y z h = refl
-  questions true false l v w y z h = refl
-  questions true true false v w y z h = refl
-  questions true true true false false y z h = refl
-  questions true true true false true y z h = refl
-  questions true true true true false y z h = refl
-  questions true true true true true false false h = refl
-  questions true true true true true false true h = refl
-  questions true true true true true true false h = refl
-  questions true true true true true true true h = h refl refl refl refl refl
+  questions t u l v w y z h = grind arith
 
 -- once the questions are answered, the room decides
 by_room : (t u : Bool) (verdict : Containment) (l l' m m' : List Outcome) → t ≡ u → said (once_solved verdict (cond t (Ok tt, l) (Err Room, l'))).0 ≡ said (once_solved verdict (cond u (Ok tt, m) (Err Room, m'))).0
-by_room true true verdict l l' m m' e = refl
-by_room true false verdict l l' m m' e = absurd (both_ways true e refl)
-by_room false true verdict l l' m m' e = absurd (both_ways true (sym e) refl)
-by_room false false verdict l l' m m' e = refl
+by_room t u verdict l l' m m' e = grind arith
 
 module _ (a b : Automaton) (wa : WellFormed a) (wb : WellFormed b) (p q : ℕ) (records records' : List Outcome) (long : length records' ≡ length records) where
   alike : Exchanged a b

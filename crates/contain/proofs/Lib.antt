@@ -1,6 +1,5 @@
 -- The lemmas, those that others cite first.
 pub mod Walks
 pub mod Asked
-pub mod Priorities
 pub mod Judging
 pub mod Exchanging

@@ -1,8 +1,13 @@
--- Where the moves of a pair arena lead, 0 at a position that does not exist.
-use Rattle.std.specs.Prelude.{ℕ, cond, nat_lt}
+-- What the numbers of a pair arena stand for, and where its moves lead, 0 at a position that does not exist.
+use Rattle.std.specs.Prelude.{ℕ, cond, Some, None, Option, nat_lt}
 use Rattle.draft.specs.Automaton.{Automaton, node_of}
-use Rattle.inclusion.specs.PairGame.{pair_degree, nodes_successor, place_successor}
+use Rattle.inclusion.specs.PairGame.{pair_at, pair_degree, nodes_successor, place_successor, pair_game}
+use Rattle.inclusion.specs.declared.place.PairPlace.{PairPlace}
 use Rattle.inclusion.specs.declared.place.PairPlace.TheVariants.{AtStates}
+
+-- what a number stands for, if it is a vertex
+abbrev pub vertex_at : Automaton → Automaton → ℕ → Option PairPlace
+vertex_at a b v = cond (nat_lt v (pair_game a b).count) (Some (pair_at a b v)) None
 
 -- from states p and q
 abbrev pub states_move : Automaton → Automaton → ℕ → ℕ → ℕ → ℕ

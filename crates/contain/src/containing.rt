@@ -1,54 +1,29 @@
 // Whether one draft is contained in another.
 ghost use Rattle.std.specs.Prelude.{◌≡◌};
 ghost use Rattle.draft.specs.Meaning.{meaning as automaton};
-ghost use Rattle.contain.specs.Containing.{verdict_of, contain_answer, Planned, YesIsSafe};
+ghost use Rattle.contain.specs.Containing.{contain_answer, Planned, YesIsSafe};
 ghost use Rattle.contain.specs.ExchangeOfAnswers.{ExchangeOfAnswers};
 
 use crate::fault::{ContainFault, Containment};
 use crate::pair::{ask, make};
-use draft::Draft;
+use draft::Start;
 use game::{Outcome, solve};
-use parity::Player;
 
-// Contained where player 0 wins the pair of states asked about: then the second draft accepts every repeating word that the
-// first accepts. The records are left as solve writes them.
+// Contained where player 0 wins the pair of initial states: then the second draft accepts every repeating word that the first
+// accepts. The records are left as solve writes them.
 pub fn contain<'a>(
-    first: &'a Draft,
-    first_state: usize,
-    second: &'a Draft,
-    second_state: usize,
+    first: Start<'a>,
+    second: Start<'a>,
     out: &mut [Outcome],
 ) -> Result<Containment, ContainFault>
-    ensures answer { (result, out.new) ≡ contain_answer (automaton first.now) first_state (automaton second.now) second_state out.old }
-    ensures planned { Planned result (automaton first.now) first_state (automaton second.now) second_state }
-    ensures safe { YesIsSafe result (automaton first.now) first_state (automaton second.now) second_state }
+    ensures answer { (result, out.new) ≡ contain_answer (automaton first.entry.draft.now) first.entry.state (automaton second.entry.draft.now) second.entry.state out.old }
+    ensures planned { Planned result (automaton first.entry.draft.now) first.entry.state (automaton second.entry.draft.now) second.entry.state }
+    ensures safe { YesIsSafe result (automaton first.entry.draft.now) first.entry.state (automaton second.entry.draft.now) second.entry.state }
     ensures exchanged { ExchangeOfAnswers }
 {
-    decide(first, first_state, second, second_state, out)
-}
-
-// The answer by the arena of both drafts.
-fn decide<'a>(
-    first: &'a Draft,
-    first_state: usize,
-    second: &'a Draft,
-    second_state: usize,
-    out: &mut [Outcome],
-) -> Result<Containment, ContainFault>
-    ensures { (result, out.new) ≡ contain_answer (automaton first.now) first_state (automaton second.now) second_state out.old }
-{
-    ask(first, first_state, second, second_state)?;
-    let arena = make(first, first_state, second, second_state);
+    ask(first, second)?;
+    let arena = make(first, second);
     solve(&arena, out)?;
-    let asked = first_state * second.state_count() + second_state;
-    Ok(verdict(out[asked].winner))
-}
-
-fn verdict(winner: Player) -> Containment
-    ensures { result ≡ verdict_of winner }
-{
-    match winner {
-        Player::Zero => Containment::Contained,
-        Player::One => Containment::NotShown,
-    }
+    let asked = first.state * second.draft.state_count() + second.state;
+    Ok(Containment::from(out[asked].winner))
 }

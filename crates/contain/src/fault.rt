@@ -1,7 +1,9 @@
 // What containment answers, and why it may refuse.
 ghost use Rattle.std.specs.Prelude.{◌≡◌};
 ghost use Rattle.contain.specs.Answers.{verdict_number, draft_number, of_none};
+ghost use Rattle.contain.specs.Containing.{verdict_of};
 
+use parity::Player;
 use refusal::Refusal;
 
 // Whether the first automaton is contained in the second. `NotShown` does not say that it is not.
@@ -11,12 +13,24 @@ pub enum Containment {
     Contained = 1,
 }
 
-impl Containment {
-    // 0 or 1.
-    pub fn number(self) -> u8
-        ensures { result ≡ verdict_number self }
-    {
-        self as u8
+// Contained where player 0 wins the pair of states asked about.
+impl From<Player> for Containment {
+    ghost from_gives = { λ a r. r ≡ verdict_of a };
+
+    fn from(winner: Player) -> Containment {
+        match winner {
+            Player::Zero => Containment::Contained,
+            Player::One => Containment::NotShown,
+        }
+    }
+}
+
+// 0 or 1.
+impl From<Containment> for u8 {
+    ghost from_gives = { λ a r. r ≡ verdict_number a };
+
+    fn from(containment: Containment) -> u8 {
+        containment as u8
     }
 }
 
@@ -27,12 +41,12 @@ pub enum Which {
     Second = 2,
 }
 
-impl Which {
-    // 1 or 2.
-    pub fn number(self) -> u8
-        ensures { result ≡ draft_number self }
-    {
-        self as u8
+// 1 or 2.
+impl From<Which> for u8 {
+    ghost from_gives = { λ a r. r ≡ draft_number a };
+
+    fn from(which: Which) -> u8 {
+        which as u8
     }
 }
 

@@ -8,5 +8,5 @@ mod strata;
 
 pub use containing::contain;
 pub use fault::{ContainFault, Containment, Which};
-pub use pair::{PairArena, ask, make};
+pub use pair::{MOST_VERTICES, PairArena, ask, make};
 pub use strata::stratified;

@@ -1,18 +1,16 @@
 -- Where player 0 wins the pair game and the first word game, player 1 does not win the second word game: the three plays of the
 -- winning plans would have priorities that fall for ever.
-use Rattle.std.proofs.Common.{◌≡◌, ℕ, zero, suc, ◌<◌, ◌≤◌, subst, arith}
-use Rattle.parity.specs.Determinacy.{reported}
-use Rattle.parity.specs.Game.{Game, Sound}
+use Rattle.std.proofs.Common.{◌≡◌, ℕ, zero, suc, ◌<◌, ◌≤◌, arith}
 use Rattle.parity.specs.Grading.{winner}
 use Rattle.parity.specs.Move.{move}
-use Rattle.parity.specs.Play.{Winning}
 use Rattle.parity.specs.declared.player.Player.{Player}
 use Rattle.parity.specs.declared.player.Player.TheVariants.{Zero, One}
-use Rattle.parity.proofs.Determined.{reported_wins, move_legal}
+use Rattle.parity.proofs.Determined.{reported_wins}
 use Rattle.draft.specs.Automaton.{Automaton, state_count, node_count, priority_of}
 use Rattle.runs.specs.Run.{rule_node}
-use Rattle.runs.proofs.Moved.{not_zero, free, forced}
-use Rattle.runs.proofs.Passage.{Walk, first_step, LeastFavours, passage, passage_plays, passage_follows, won_least}
+use Rattle.runs.proofs.Moved.{not_zero, free}
+use Rattle.runs.proofs.Passage.{Walk, first_step, LeastFavours, moves_least}
+use Rattle.runs.proofs.StatePlays.{least}
 use Rattle.runs.proofs.WordArena.{even_favours, odd_favours}
 use Rattle.inclusion.specs.PairGame.{pair_priority}
 use Rattle.inclusion.specs.Stratified.{NamedBelow}
@@ -21,30 +19,11 @@ use Rattle.inclusion.proofs.Meets.{Meet, meet}
 use Rattle.inclusion.proofs.PairArena.{Side, ThreeGames}
 use Rattle.inclusion.proofs.Ways.{Way}
 
--- what the winner's plan makes of a play through given vertices
-passed : (G : Game) → Sound G → (x : Player) (head p : ℕ → ℕ) → ((i : ℕ) → G.priority (head i) ≡ p i) → ((i : ℕ) → p i < 9999) →
-    ((i : ℕ) → Walk G (move G) x (head i) (head (suc i))) → head 0 < G.count → winner G (head 0) ≡ x → LeastFavours G x p
-passed G sound x head p priorities low walks inside won =
-    let w = subst (λ y. Winning G y (reported G) (head 0)) won (reported_wins G sound (head 0) inside) in
-    won_least G (move G) x head p priorities low walks x
-    (w.wins (passage G (move G) x head p priorities low walks) (passage_plays G (move G) x head p priorities low walks) (passage_follows G (move G) x head p priorities low walks))
-
 -- A word game on its own: the states q i at step i, and the ways between them. The argument is the same for both automata.
 module _ {c : Automaton} {x : Player} {word : ℕ → ℕ} (S : Side c x word) (q : ℕ → ℕ) (q< : (i : ℕ) → q i < state_count c)
     (ways : (i : ℕ) → Way S i (rule_node c (q i) (word i)) (q (suc i))) where
-  low : (i : ℕ) → priority_of c (q i) ≤ 1000
-  low i = S.arena.formed.low (q i) (q< i)
-
-  walks : (i : ℕ) → Walk S.G (move S.G) x (S.st i (q i)) (S.st (suc i) (q (suc i)))
-  walks i =
-      first_step S.G (move S.G) x _ _ _
-      (forced S.G (move S.G) x _ _ (move_legal S.G S.arena.sound _ (S.arena.state_in i (q i) (q< i))) (S.arena.state_degree i (q i) (q< i)) (S.arena.state_next i (q i) (q< i)))
-      (S.arena.node_high i _ (S.arena.formed.ruled (q i) (word i) (q< i) (S.arena.reads i))) (ways i).walk
-
-  least : winner S.G (S.st 0 (q 0)) ≡ x → LeastFavours S.G x (λ i. priority_of c (q i))
-  least =
-      passed S.G S.arena.sound x (λ i. S.st i (q i)) (λ i. priority_of c (q i)) (λ i. S.arena.state_priority i (q i) (q< i)) (λ i. omega (arith, low i)) walks
-      (S.arena.state_in 0 (q 0) (q< 0))
+  side_least : winner S.G (S.st 0 (q 0)) ≡ x → LeastFavours S.G x (λ i. priority_of c (q i))
+  side_least won = least S.arena x q q< (λ i. (ways i).walk) (reported_wins S.G S.arena.sound _ (S.arena.state_in 0 (q 0) (q< 0)) x won)
 
 module _ (a b : Automaton) (word : ℕ → ℕ) (T : ThreeGames a b word)
     (falls-a : (p i q : ℕ) → p < state_count a → NamedBelow a q (rule_node a p (word i)) → priority_of a q ≤ priority_of a p)
@@ -94,15 +73,15 @@ module _ (a b : Automaton) (word : ℕ → ℕ) (T : ThreeGames a b word)
       (T.pairs.node_high _ _ (in_a i h) (in_b i h)) (link i h).walk
 
   pair_least : winner T.C (head 0) ≡ Zero → LeastFavours T.C Zero (λ i. pair_priority (p i) (q i))
-  pair_least =
-      passed T.C T.pairs.sound Zero head (λ i. pair_priority (p i) (q i)) (λ i. T.pairs.state_priority _ _ (here i).2 (here i).3)
+  pair_least won =
+      moves_least T.C (move T.C) Zero head (λ i. pair_priority (p i) (q i)) (λ i. T.pairs.state_priority _ _ (here i).2 (here i).3)
       (λ i. omega (arith, pair_low (p i) (q i) (T.first.arena.formed.low _ (here i).2) (T.second.arena.formed.low _ (here i).3))) pair_walks
-      (T.pairs.state_in _ _ (here 0).2 (here 0).3)
+      (reported_wins T.C T.pairs.sound (head 0) (T.pairs.state_in _ _ (here 0).2 (here 0).3) Zero won)
 
   pub clash : winner T.C (T.sp p₀ q₀) ≡ Zero → winner T.first.G (T.first.st 0 p₀) ≡ Zero → winner T.second.G (T.second.st 0 q₀) ≡ One → ⊥
   unfolding here
   clash won won-a won-b =
       no_descent p q (λ i. falls-a (here i).0 i _ (here i).2 (first_way i).named) (λ i. falls-b (here i).1 i _ (here i).3 (second_way i).named)
-      (λ i o. (let r = least T.first (λ i. (here i).0) (λ i. (here i).2) first_way won-a i (odd_favours T.first.G T.first.arena.even_zero (p i) o) in (r.0, r.1)))
-      (λ i z. (let r = least T.second (λ i. (here i).1) (λ i. (here i).3) second_way won-b i (even_favours T.second.G T.second.arena.even_zero (q i) z) in (r.0, r.1)))
+      (λ i o. (let r = side_least T.first (λ i. (here i).0) (λ i. (here i).2) first_way won-a i (odd_favours T.first.G T.first.arena.even_zero (p i) o) in (r.0, r.1)))
+      (λ i z. (let r = side_least T.second (λ i. (here i).1) (λ i. (here i).3) second_way won-b i (even_favours T.second.G T.second.arena.even_zero (q i) z) in (r.0, r.1)))
       (λ i o. (let r = pair_least won i (odd_favours T.C T.pairs.even_zero _ o) in (r.0, r.1)))

@@ -41,9 +41,9 @@ module _ (a b : Automaton) (wa : WellFormed a) (wb : WellFormed b) (k : Comparab
     C = pair_moves a b;
     sp = states_at a b;
     np = nodes_at a b;
-    pairs = pair_arena a b fa fb k.same_letters wa.some_letters (letter prefix period) (letter_in prefix period a.letters r);
-    first = record { G = word_moves a prefix period; st = st a fa prefix period r; nd = nd a fa prefix period r; arena = word_arena a fa prefix period r };
-    second = record { G = word_moves b prefix period; st = st b fb prefix period r'; nd = nd b fb prefix period r'; arena = word_arena b fb prefix period r' };
+    pairs = pair_arena fa fb k.same_letters wa.some_letters (letter prefix period) (letter_in prefix period a.letters r);
+    first = record { G = word_moves a prefix period; st = st fa r; nd = nd fa r; arena = word_arena fa r };
+    second = record { G = word_moves b prefix period; st = st fb r'; nd = nd fb r'; arena = word_arena fb r' };
   }
 
   module _ (p q : ℕ) (p< : p < state_count a) (q< : q < state_count b) (won : pair_winner a b p q ≡ Zero) (acc : Accepts a (letter prefix period) p) where
@@ -54,13 +54,13 @@ module _ (a b : Automaton) (wa : WellFormed a) (wb : WellFormed b) (k : Comparab
         (falls a k.first_complete k.first_stratified (letter prefix period) (letter_in prefix period a.letters r))
         (falls b k.second_complete k.second_stratified (letter prefix period) (letter_in prefix period b.letters r'))
         p q p< q<
-        (sym (inside_winner (pair_moves a b) (pair_sound a b fa fb k.same_letters wa.some_letters) (states_at a b p q) (states_in a b p q p< q<)) ∙ won)
-        (sym (same_winner a fa prefix period r p p<) ∙ accepted_wins a fa prefix period r p p< acc)
-        (sym (same_winner b fb prefix period r' q q<) ∙ lost)
+        (sym (inside_winner (pair_sound fa fb k.same_letters wa.some_letters) (states_at a b p q) (states_in a b p q p< q<)) ∙ won)
+        (sym (same_winner fa r p p<) ∙ accepted_wins fa r p p< acc)
+        (sym (same_winner fb r' q q<) ∙ lost)
 
     pub contains : Accepts b (letter prefix period) q
     contains =
-        elim (which (word_winner b prefix period q) Zero) [ inl e ↦ won_accepts b fb prefix period r' q q< e | inr e ↦ absurd (not_one e) ]
+        elim (which (word_winner b prefix period q) Zero) [ inl e ↦ won_accepts fb r' q q< e | inr e ↦ absurd (not_one e) ]
 
 pub contained : Safe
 contained a b wa wb k p q p< q< won prefix period r acc = contains a b wa wb k prefix period r p q p< q< won acc

@@ -1,6 +1,7 @@
 -- No two falling lists of priorities can both go on for ever against the rule of pairs.
-use Rattle.std.proofs.Common.{◌≡◌, ℕ, zero, suc, ◌+◌, ◌*◌, ◌%◌, ◌<◌, ◌≤◌, Bool, true, false, cond, ◌||◌, eqb, ap, ap₂, inl, inr, arith}
-use Rattle.std.proofs.lemmas.Bool.{cases_lt, ne_eqb, cond-false, or_from}
+use Rattle.std.proofs.Common.{◌≡◌, ℕ, zero, suc, ◌+◌, ◌*◌, ◌%◌, ◌<◌, ◌≤◌, Bool, true, false, cond, ◌||◌, eqb, ap₂, inl, inr, arith}
+use Rattle.std.proofs.lemmas.Bool.{cases_eq, cases_lt}
+use Rattle.std.proofs.lemmas.Bool.Decides.{nat_tests}
 use Rattle.parity.proofs.Parities.{parity}
 use Rattle.inclusion.specs.PairGame.{pair_priority}
 
@@ -12,14 +13,14 @@ pub pair_low : (p q : ℕ) → p ≤ 1000 → q ≤ 1000 → pair_priority p q �
 pair_low p q l l' = omega (arith, bit (eqb (p % 2) 1 || eqb (q % 2) 0))
 
 pair_odd : (p q : ℕ) → p % 2 ≡ 0 → q % 2 ≡ 1 → pair_priority p q ≡ 2 * (p + q) + 1
-pair_odd p q z o = ap (λ k. 2 * (p + q) + k) (cond-false (eqb (p % 2) 1 || eqb (q % 2) 0) 0 1 (or_from _ _ (ne_eqb (p % 2) 1 (λ h. omega arith)) (ne_eqb (q % 2) 0 (λ h. omega arith))))
+pair_odd p q z o = grind (arith, nat_tests)
 
 pair_least : (p q : ℕ) → 2 * (p + q) ≤ pair_priority p q
 pair_least p q = omega arith
 
 falls : (f : ℕ → ℕ) → ((i : ℕ) → f (suc i) ≤ f i) → (i j : ℕ) → i ≤ j → f j ≤ f i
-falls f h i zero l = (let e : i ≡ 0 = omega arith in rw e (omega arith))
-falls f h i (suc j) l = elim (cases_lt i (suc j)) [ inl l' ↦ omega (arith, falls f h i j (omega arith), h j) | inr l' ↦ (let e : i ≡ suc j = omega arith in rw e (omega arith)) ]
+falls f h i zero l = grind arith
+falls f h i (suc j) l = grind (arith, cases_eq i (suc j), falls f h i j, h j)
 
 -- of two falling lists, where the one is smaller the sum is
 sum_falls : (f g : ℕ → ℕ) → ((i : ℕ) → f (suc i) ≤ f i) → ((i : ℕ) → g (suc i) ≤ g i) → (i j : ℕ) → f j < f i → f j + g j < f i + g i
@@ -39,25 +40,22 @@ module _ (p q : ℕ → ℕ) (p_falls : (i : ℕ) → p (suc i) ≤ p i) (q_fall
   by_q : (i : ℕ) → q i % 2 ≡ 0 → Smaller i
   by_q i z = let r = even-q i z in (r.0, omega (arith, sum_falls q p q_falls p_falls i r.0 r.1))
 
+  -- where the sum is the same, both are
+  settled : (i j : ℕ) → p i + q i ≡ p j + q j → (p i ≡ p j) × (q i ≡ q j)
+  settled i j e = elim (cases_lt i j) [
+    | inl k ↦ (let fp = falls p p_falls i j (omega arith) in let fq = falls q q_falls i j (omega arith) in (omega arith, omega arith))
+    | inr k ↦ (let fp = falls p p_falls j i k in let fq = falls q q_falls j i k in (omega arith, omega arith))
+  ]
+
   by_pair : (i : ℕ) → p i % 2 ≡ 0 → q i % 2 ≡ 1 → Smaller i
-  by_pair i z o = elim (cases_lt (p r.0 + q r.0) (p i + q i)) [ inl l ↦ (r.0, l) | inr l ↦ absurd (not_less l) ]
-    where
-      odd : pair_priority (p i) (q i) ≡ 2 * (p i + q i) + 1
-      odd = pair_odd (p i) (q i) z o
-
-      r : (j : ℕ) × (pair_priority (p j) (q j) < pair_priority (p i) (q i))
-      r = odd-pair i (let e = odd in omega arith)
-
-      equal : p r.0 ≡ p i → q r.0 ≡ q i → ⊥
-      equal e e' = omega (arith, r.1, ap₂ pair_priority e e')
-
-      not_less : p i + q i ≤ p r.0 + q r.0 → ⊥
-      not_less l =
-          let t : p r.0 + q r.0 ≤ p i + q i = omega (arith, r.1, odd, pair_least (p r.0) (q r.0)) in
-          elim (cases_lt i r.0) [
-            | inl k ↦ (let fp = falls p p_falls i r.0 (omega arith) in let fq = falls q q_falls i r.0 (omega arith) in equal (omega arith) (omega arith))
-            | inr k ↦ (let fp = falls p p_falls r.0 i k in let fq = falls q q_falls r.0 i k in equal (omega arith) (omega arith))
-          ]
+  by_pair i z o =
+      let odd = pair_odd (p i) (q i) z o in
+      let r = odd-pair i (omega arith) in
+      let least = pair_least (p r.0) (q r.0) in
+      elim (cases_lt (p r.0 + q r.0) (p i + q i)) [
+        | inl l ↦ (r.0, l)
+        | inr l ↦ absurd (let same = settled i r.0 (omega (arith, r.1)) in omega (arith, r.1, ap₂ pair_priority same.0 same.1))
+      ]
 
   smaller : (i : ℕ) → Smaller i
   smaller i = elim (parity (p i)) [ inr o ↦ by_p i o | inl z ↦ elim (parity (q i)) [ inl y ↦ by_q i y | inr o ↦ by_pair i z o ] ]

@@ -1,7 +1,7 @@
 -- Two nodes, dual and exchanged: the same owner and the same moves, in another order where both nodes move.
-use Rattle.std.proofs.Common.{◌≡◌, ℕ, zero, suc, ◌+◌, ◌%◌, ◌<◌, Bool, true, false, cond, ◌&&◌, ◌||◌, eqb, sym, refl, ap, ◌∙◌, ap₂, inl, inr, arith}
-use Rattle.std.proofs.lemmas.Bool.{eq-eqb, ne_eqb}
-use Rattle.parity.proofs.Parities.{parity}
+use Rattle.std.proofs.Common.{◌≡◌, ℕ, zero, suc, ◌+◌, ◌%◌, ◌<◌, Bool, true, false, cond, ◌&&◌, ◌||◌, eqb, refl, ap, ◌∙◌, ap₂, arith}
+use Rattle.std.proofs.Math.Bool.{or_comm}
+use Rattle.std.proofs.lemmas.Bool.Decides.{nat_tests}
 use Rattle.draft.specs.declared.parts.Node.{Node}
 use Rattle.draft.specs.declared.parts.Node.TheVariants.{Leaf, Either, Both}
 use Rattle.draft.specs.Calls.{dual}
@@ -56,21 +56,11 @@ position_in n o = position_within (first_moves n o) (second_moves n o)
 
 -- one more is odd where a number is even, and even where it is odd
 next_parity : (n : ℕ) → (eqb ((n + 1) % 2) 1 ≡ eqb (n % 2) 0) × (eqb ((n + 1) % 2) 0 ≡ eqb (n % 2) 1)
-next_parity n =
-    elim (parity n) [
-      | inl z ↦ (eq-eqb _ _ (omega arith) ∙ sym (eq-eqb _ _ z), ne_eqb _ _ (λ h. omega arith) ∙ sym (ne_eqb _ _ (λ h. omega arith)))
-      | inr o ↦ (ne_eqb _ _ (λ h. omega arith) ∙ sym (ne_eqb _ _ (λ h. omega arith)), eq-eqb _ _ (omega arith) ∙ sym (eq-eqb _ _ o))
-    ]
-
-or_exchanged : (t u : Bool) → (t || u) ≡ (u || t)
-or_exchanged true true = refl
-or_exchanged true false = refl
-or_exchanged false true = refl
-or_exchanged false false = refl
+next_parity n = (grind (arith, nat_tests), grind (arith, nat_tests))
 
 -- both priorities one larger, and exchanged: the pair's is 4 larger
 pub priority_four : (p q : ℕ) → pair_priority (q + 1) (p + 1) ≡ pair_priority p q + 4
 priority_four p q =
     let same : ◌≡◌ {A = ℕ} (cond (eqb ((q + 1) % 2) 1 || eqb ((p + 1) % 2) 0) 0 1) (cond (eqb (p % 2) 1 || eqb (q % 2) 0) 0 1) =
-    ap (λ t. cond t 0 1) (ap₂ ◌||◌ (next_parity q).0 (next_parity p).1 ∙ or_exchanged (eqb (q % 2) 0) (eqb (p % 2) 1)) in
+    ap (λ t. cond t 0 1) (ap₂ ◌||◌ (next_parity q).0 (next_parity p).1 ∙ or_comm (eqb (q % 2) 0) (eqb (p % 2) 1)) in
     omega arith

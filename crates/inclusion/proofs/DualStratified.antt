@@ -1,6 +1,6 @@
 -- Turning an automaton raises all priorities by one, so it is stratified exactly if it was.
-use Rattle.std.proofs.Common.{◌≡◌, ℕ, zero, suc, ◌+◌, ◌<◌, Bool, ◌&&◌, leb, Some, None, Option, sym, refl, ap, ◌∙◌, inl, inr, arith}
-use Rattle.std.proofs.lemmas.Bool.{cases_lt, le-leb, lt-leb}
+use Rattle.std.proofs.Common.{◌≡◌, ℕ, zero, suc, ◌+◌, ◌<◌, Bool, ◌&&◌, leb, Some, None, Option, refl, ap, ◌∙◌, arith}
+use Rattle.std.proofs.lemmas.Bool.Decides.{nat_tests}
 use Rattle.parity.specs.Below.{all_below}
 use Rattle.parity.proofs.Below.{all_cong}
 use Rattle.draft.specs.declared.parts.Node.{Node}
@@ -13,11 +13,7 @@ use Rattle.draft.proofs.Dual.{states_same, priority_raised, rule_same, node_dual
 use Rattle.inclusion.specs.Stratified.{node_low, low_to, rule_low, state_low, is_stratified}
 
 leb_next : (m n : ℕ) → leb (m + 1) (n + 1) ≡ leb m n
-leb_next m n =
-    elim (cases_lt n m) [
-      | inl l ↦ lt-leb (m + 1) (n + 1) (omega arith) ∙ sym (lt-leb m n l)
-      | inr l ↦ le-leb (m + 1) (n + 1) (omega arith) ∙ sym (le-leb m n l)
-    ]
+leb_next m n = grind (arith, nat_tests)
 
 module _ (a : Automaton) (w : WellFormed a) (b : ℕ) where
   node_raised : (low low' : ℕ → Bool) (x : ℕ) (n : Node) → Fits (state_count a) x n → ((y : ℕ) → y < x → low y ≡ low' y) → node_low (turned a) (b + 1) low (dual n) ≡ node_low a b low' n

@@ -1,10 +1,10 @@
 -- The law of exchange: the pair game of the two automata turned and exchanged is alike, so it has the same winners.
-use Rattle.std.proofs.Common.{◌≡◌, ℕ, zero, suc, ◌+◌, ◌%◌, ◌<◌, true, cond, ltb, ◌⊎◌, sym, refl, ap, ◌∙◌, subst, ap₂, inl, inr, arith}
-use Rattle.std.proofs.lemmas.Bool.{cond-true, lt-ltb}
+use Rattle.std.proofs.Common.{◌≡◌, ℕ, zero, suc, ◌+◌, ◌%◌, ◌<◌, true, sym, refl, ap, ◌∙◌, ap₂, inl, inr, arith}
+use Rattle.std.proofs.lemmas.Bool.{lt-ltb}
 use Rattle.parity.specs.Game.{Game, favoured}
 use Rattle.parity.specs.Grading.{winner}
 use Rattle.parity.proofs.Parities.{parity, favoured_even, favoured_odd}
-use Rattle.parity.proofs.Transfer.{Alike, Shifted, shifted_carries, transfer}
+use Rattle.parity.proofs.Transfer.{Alike, Raised, Shifted, shifted_carries, transfer}
 use Rattle.draft.specs.declared.parts.Node.{Node}
 use Rattle.draft.specs.declared.parts.Node.TheVariants.{Leaf, Either, Both}
 use Rattle.draft.specs.Automaton.{Automaton, state_count, node_count, priority_of, node_of, is_complete}
@@ -24,7 +24,7 @@ use Rattle.inclusion.specs.PairGame.{pair_owner, pair_degree, pair_priority, sta
 use Rattle.inclusion.proofs.Descent.{pair_low}
 use Rattle.inclusion.proofs.DualPairs.{dual_same, position, position_in, priority_four}
 use Rattle.inclusion.proofs.DualStratified.{stratified_same}
-use Rattle.inclusion.proofs.PairGames.{pair_known, states_place, nodes_place, states_in, nodes_in, pair_sound}
+use Rattle.inclusion.proofs.PairGames.{pair_each, states_place, nodes_place, states_in, nodes_in, pair_sound}
 
 module _ (a b : Automaton) (wa : WellFormed a) (wb : WellFormed b) (ca : is_complete a ≡ true) (cb : is_complete b ≡ true) (same : a.letters ≡ b.letters) where
   abbrev G : Game
@@ -57,11 +57,11 @@ module _ (a b : Automaton) (wa : WellFormed a) (wb : WellFormed b) (ca : is_comp
 
   f_states : (p q : ℕ) → p < state_count a → q < state_count b → f (states_at (turned b) (turned a) q p) ≡ states_at a b p q
   unfolding f
-  f_states p q p< q< = ap swapped (states_place (turned b) (turned a) q p (subst (λ s. q < s) (sym (states_same b)) q<) (subst (λ s. p < s) (sym (states_same a)) p<))
+  f_states p q p< q< = ap swapped (states_place (turned b) (turned a) q p (rw (states_same b) q<) (rw (states_same a) p<))
 
   f_nodes : (x y : ℕ) → x < node_count a → f (nodes_at (turned b) (turned a) y x) ≡ nodes_at a b x y
   unfolding f
-  f_nodes x y x< = ap swapped (nodes_place (turned b) (turned a) y x (subst (λ m. x < m) (sym (nodes_same a)) x<))
+  f_nodes x y x< = ap swapped (nodes_place (turned b) (turned a) y x (rw (nodes_same a) x<))
 
   module _ (x y : ℕ) (x< : x < node_count a) where
     in_x : (l r i : ℕ) → (l < x) × (r < x) → f (nodes_at (turned b) (turned a) y (side l r i)) ≡ nodes_at a b (side l r i) y
@@ -70,30 +70,23 @@ module _ (a b : Automaton) (wa : WellFormed a) (wb : WellFormed b) (ca : is_comp
     in_y : (c : ℕ) → f (nodes_at (turned b) (turned a) c x) ≡ nodes_at a b x c
     in_y c = f_nodes x c x<
 
-    -- the test of the first two positions, where there are no more
-    two : (i w w' : ℕ) → i < 2 → cond (ltb i 2) w w' ≡ w
-    two i w w' i< = cond-true (ltb i 2) w w' (lt-ltb i 2 i<)
-
     next_same : (n o : Node) → Fits (state_count a) x n → Fits (state_count b) y o → (i : ℕ) → i < pair_degree n o →
         f (nodes_successor (turned b) (turned a) y x (dual o) (dual n) i) ≡ nodes_successor a b x y n o (position n o i)
     next_same (Leaf p) (Leaf q) h h' i i< = f_states p q h h'
-    next_same (Leaf p) (Either c d) h h' i i< = ap f (two i _ _ i<) ∙ in_y (side c d (i % 2))
-    next_same (Leaf p) (Both c d) h h' i i< = ap f (two i _ _ i<) ∙ in_y (side c d (i % 2))
-    next_same (Either l r) (Leaf q) h h' i i< = in_x l r (i % 2) h ∙ sym (two i _ _ i<)
-    next_same (Either l r) (Either c d) h h' i i< = in_x l r (i % 2) h ∙ sym (two i _ _ i<)
+    next_same (Leaf p) (Either c d) h h' i i< = rw (lt-ltb i 2 i<) (in_y (side c d (i % 2)))
+    next_same (Leaf p) (Both c d) h h' i i< = rw (lt-ltb i 2 i<) (in_y (side c d (i % 2)))
+    next_same (Either l r) (Leaf q) h h' i i< = rw (lt-ltb i 2 i<) (in_x l r (i % 2) h)
+    next_same (Either l r) (Either c d) h h' i i< = rw (lt-ltb i 2 i<) (in_x l r (i % 2) h)
     next_same (Either l r) (Both c d) h h' zero i< = in_y c
     next_same (Either l r) (Both c d) h h' (suc zero) i< = in_y d
     next_same (Either l r) (Both c d) h h' (suc (suc zero)) i< = in_x l r 0 h
     next_same (Either l r) (Both c d) h h' (suc (suc (suc i))) i< = (let e : i ≡ 0 = omega arith in rw e (in_x l r 1 h))
-    next_same (Both l r) (Leaf q) h h' i i< = in_x l r (i % 2) h ∙ sym (two i _ _ i<)
+    next_same (Both l r) (Leaf q) h h' i i< = rw (lt-ltb i 2 i<) (in_x l r (i % 2) h)
     next_same (Both l r) (Either c d) h h' zero i< = in_y c
     next_same (Both l r) (Either c d) h h' (suc zero) i< = in_y d
     next_same (Both l r) (Either c d) h h' (suc (suc zero)) i< = in_x l r 0 h
     next_same (Both l r) (Either c d) h h' (suc (suc (suc i))) i< = (let e : i ≡ 0 = omega arith in rw e (in_x l r 1 h))
-    next_same (Both l r) (Both c d) h h' i i< = ap f (two i _ _ i<) ∙ in_y (side c d (i % 2))
-
-  abbrev Priorities : ℕ → ℕ → Type 0
-  Priorities p p' = ((p + 4 < 9999) × (p' ≡ p + 4)) ⊎ ((p ≡ 9999) × (p' ≡ 9999))
+    next_same (Both l r) (Both c d) h h' i i< = rw (lt-ltb i 2 i<) (in_y (side c d (i % 2)))
 
   -- a place P of H stands for a place Q of G
   record Stands (P Q : PairPlace) : Type 0 where
@@ -102,7 +95,7 @@ module _ (a b : Automaton) (wa : WellFormed a) (wb : WellFormed b) (ca : is_comp
     within : (i : ℕ) → i < place_degree a b Q → at_place P i < place_degree a b Q
     next : (i : ℕ) → i < place_degree a b Q → f (place_successor (turned b) (turned a) P i) ≡ place_successor a b Q (at_place P i)
     back : (i : ℕ) → i < place_degree a b Q → at_place P (at_place P i) ≡ i
-    priorities : Priorities (place_priority a b Q) (place_priority (turned b) (turned a) P)
+    priorities : Raised 4 9999 (place_priority a b Q) (place_priority (turned b) (turned a) P)
 
   states_stand : (p q : ℕ) → p < state_count a → q < state_count b → Stands (AtStates q p) (AtStates p q)
   states_stand p q p< q< = record {
@@ -128,67 +121,55 @@ module _ (a b : Automaton) (wa : WellFormed a) (wb : WellFormed b) (ca : is_comp
     priorities = inr (refl, refl);
   }
 
-  abbrev Vertex : ℕ → Type 0
-  Vertex u = (f u < G.count) × Stands (pair_at (turned b) (turned a) u) (pair_at a b (f u))
+  abbrev Vertex : PairPlace → Type 0
+  Vertex P = (swapped P < G.count) × Stands P (pair_at a b (swapped P))
 
-  spread : (u v : ℕ) (P Q : PairPlace) → pair_at (turned b) (turned a) u ≡ P → f u ≡ v → pair_at a b v ≡ Q → v < G.count → Stands P Q → Vertex u
-  spread u v P Q e to e' v< s = (
-    subst (λ k. k < G.count) (sym to) v<,
-    subst (λ Z. Stands Z (pair_at a b (f u))) (sym e) (subst (Stands P) (sym (ap (pair_at a b) to ∙ e')) s),
-  )
-
-  vertex : (u : ℕ) → u < H.count → Vertex u
-  vertex u u< = elim (pair_known (turned b) (turned a) u u<) [
-    | inl (q, p, q<, p<, e) ↦ states q p (subst (λ s. q < s) (states_same b) q<) (subst (λ s. p < s) (states_same a) p<) e
-    | inr (y, x, y<, x<, e) ↦ nodes y x (subst (λ m. y < m) (nodes_same b) y<) (subst (λ m. x < m) (nodes_same a) x<) e
-  ]
+  vertex : (u : ℕ) → u < H.count → (f u < G.count) × Stands (pair_at (turned b) (turned a) u) (pair_at a b (f u))
+  unfolding f
+  vertex = pair_each (turned b) (turned a) Vertex
+      (λ q p q< p<. states q p (rw (states_same b) at q<) (rw (states_same a) at p<))
+      (λ y x y< x<. nodes y x (rw (nodes_same b) at y<) (rw (nodes_same a) at x<))
     where
-      states : (q p : ℕ) → q < state_count b → p < state_count a → pair_at (turned b) (turned a) u ≡ AtStates q p → Vertex u
-      states q p q< p< e =
-          spread u (states_at a b p q) (AtStates q p) (AtStates p q) e (unfold f in ap swapped e) (states_place a b p q p< q<) (states_in a b p q p< q<) (states_stand p q p< q<)
+      states : (q p : ℕ) → q < state_count b → p < state_count a → Vertex (AtStates q p)
+      states q p q< p< = (states_in a b p q p< q<, rw (states_place a b p q p< q<) (states_stand p q p< q<))
 
-      nodes : (y x : ℕ) → y < node_count b → x < node_count a → pair_at (turned b) (turned a) u ≡ AtNodes y x → Vertex u
-      nodes y x y< x< e =
-          spread u (nodes_at a b x y) (AtNodes y x) (AtNodes x y) e (unfold f in ap swapped e) (nodes_place a b x y y<) (nodes_in a b x y x< y<) (nodes_stand x y x< y<)
+      nodes : (y x : ℕ) → y < node_count b → x < node_count a → Vertex (AtNodes y x)
+      nodes y x y< x< = (nodes_in a b x y x< y<, rw (nodes_place a b x y y<) (nodes_stand x y x< y<))
 
   alike : Alike G H (λ x. x) f there
   unfolding there
   alike = record {
     inside = λ u u<. (vertex u u<).0;
     owners = λ u u<. inl (vertex u u<).1.own;
-    forth = λ u j u< l. (let s = (vertex u u<).1 in let l' = subst (λ d. j < d) s.degree l in (at_place (pair_at (turned b) (turned a) u) j, s.within j l', s.next j l'));
+    forth = λ u j u< l. (let s = (vertex u u<).1 in let l' = rw s.degree at l in (at_place (pair_at (turned b) (turned a) u) j, s.within j l', s.next j l'));
     back = λ u k u< l.
         (let s = (vertex u u<).1 in (
-          subst (λ d. at_place (pair_at (turned b) (turned a) u) k < d) (sym s.degree) (s.within k l),
+          rw s.degree (s.within k l),
           s.next (at_place (pair_at (turned b) (turned a) u) k) (s.within k l) ∙ ap (G.successor (f u)) (s.back k l),
         ));
   }
 
   favoured_four : (p : ℕ) → favoured H (p + 4) ≡ favoured G p
-  favoured_four p =
-      elim (parity p) [
-        | inl z ↦ favoured_even H (p + 4) (omega arith) ∙ sym (favoured_even G p z)
-        | inr o ↦ favoured_odd H (p + 4) (omega arith) ∙ sym (favoured_odd G p o)
-      ]
+  favoured_four p = grind (arith, parity p, favoured_odd H (p + 4), favoured_even G p, favoured_even H (p + 4), favoured_odd G p)
 
   shifted : Shifted G H (λ x. x) f 4 9999
   shifted = record { favours = favoured_four; levels = λ u u<. (vertex u u<).1.priorities }
 
   pub exchanged_winner : (p q : ℕ) → p < state_count a → q < state_count b → pair_winner (turned b) (turned a) q p ≡ pair_winner a b p q
   exchanged_winner p q p< q< =
-      let q<' = subst (λ s. q < s) (sym (states_same b)) q< in
-      let p<' = subst (λ s. p < s) (sym (states_same a)) p< in
+      let q<' : q < state_count (turned b) = rw (states_same b) q< in
+      let p<' : p < state_count (turned a) = rw (states_same a) p< in
       let v = states_at (turned b) (turned a) q p in
       let v< = states_in (turned b) (turned a) q p q<' p<' in
       let to = f_states p q p< q< in
-      let sound = pair_sound a b fa fb same wa.some_letters in
-      let sound' = pair_sound (turned b) (turned a) (turned_formed b wb cb) (turned_formed a wa ca) (sym same) wb.some_letters in
+      let sound = pair_sound fa fb same wa.some_letters in
+      let sound' = pair_sound (turned_formed b wb cb) (turned_formed a wa ca) (sym same) wb.some_letters in
       let level : G.priority (f v) ≡ pair_priority (priority_of a p) (priority_of b q) = ap G.priority to ∙ ap (place_priority a b) (states_place a b p q p< q<) in
-      inside_winner H sound' v v<
-      ∙ transfer G H sound sound' (λ x. x) f there alike v v<
-      (shifted_carries G H (λ x. x) f 4 9999 shifted v (omega (arith, level, pair_low (priority_of a p) (priority_of b q) (fa.low p p<) (fb.low q q<))))
+      inside_winner sound' v v<
+      ∙ transfer sound sound' alike v v<
+      (shifted_carries shifted v (omega (arith, level, pair_low (priority_of a p) (priority_of b q) (fa.low p p<) (fb.low q q<))))
       ∙ ap (winner G) to
-      ∙ sym (inside_winner G sound (states_at a b p q) (states_in a b p q p< q<))
+      ∙ sym (inside_winner sound (states_at a b p q) (states_in a b p q p< q<))
 
 pub exchanged : Exchange
 exchanged a b wa wb = record {

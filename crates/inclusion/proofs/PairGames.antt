@@ -1,6 +1,6 @@
 -- The pair game of two automata, by numbers, is a game on pairs.
-use Rattle.std.proofs.Common.{◌≡◌, ℕ, ◌+◌, ◌%◌, ◌<◌, ◌≤◌, Bool, true, false, cond, ◌||◌, ltb, sym, refl, ap, ◌∙◌, subst, ap₂, inl, inr, arith}
-use Rattle.std.proofs.lemmas.Bool.{cond_both, cond-true, lt-ltb}
+use Rattle.std.proofs.Common.{◌≡◌, ℕ, ◌+◌, ◌%◌, ◌<◌, ◌≤◌, Bool, true, false, cond, ◌||◌, ltb, refl, ap, arith}
+use Rattle.std.proofs.lemmas.Bool.{cond_both, lt-ltb}
 use Rattle.parity.specs.Game.{Game, Sound}
 use Rattle.draft.specs.declared.parts.Node.{Node}
 use Rattle.draft.specs.declared.parts.Node.TheVariants.{Leaf, Either, Both}
@@ -8,8 +8,9 @@ use Rattle.draft.specs.Automaton.{Automaton, state_count, node_count, node_of}
 use Rattle.draft.specs.WellFormed.{Fits}
 use Rattle.runs.specs.WordGame.{side}
 use Rattle.runs.proofs.Formed.{Formed}
-use Rattle.runs.proofs.Tables.{Known, known, first_place, second_place, first_in, second_in}
+use Rattle.runs.proofs.Tables.{each_place, first_place, second_place, first_in, second_in}
 use Rattle.runs.proofs.WordGames.{side_below}
+use Rattle.inclusion.specs.declared.place.PairPlace.{PairPlace}
 use Rattle.inclusion.specs.declared.place.PairPlace.TheVariants.{AtStates, AtNodes}
 use Rattle.inclusion.specs.PairGame.{pair_owner, first_moves, second_moves, pair_degree, states_at, nodes_at, pair_at, nodes_successor, place_owner, place_priority, place_degree, place_successor, pair_moves}
 use Rattle.inclusion.proofs.PairArena.{PairAt, PairArena}
@@ -28,8 +29,9 @@ module _ (a b : Automaton) where
   abbrev pub C : Game
   C = pair_moves a b
 
-  pub pair_known : (v : ℕ) → v < C.count → Known AtStates AtNodes (state_count a) (state_count b) (node_count a) (node_count b) v
-  pair_known = known AtStates AtNodes (state_count a) (state_count b) (node_count a) (node_count b)
+  pub pair_each : (Q : PairPlace → Type 0) → ((p q : ℕ) → p < state_count a → q < state_count b → Q (AtStates p q)) →
+      ((x y : ℕ) → x < node_count a → y < node_count b → Q (AtNodes x y)) → (v : ℕ) → v < C.count → Q (pair_at a b v)
+  pair_each = each_place AtStates AtNodes (state_count a) (state_count b) (node_count a) (node_count b)
 
   pub states_place : (p q : ℕ) → p < state_count a → q < state_count b → pair_at a b (states_at a b p q) ≡ AtStates p q
   states_place = first_place AtStates AtNodes (state_count a) (state_count b) (node_count a) (node_count b)
@@ -44,27 +46,22 @@ module _ (a b : Automaton) where
   nodes_in = second_in AtStates AtNodes (state_count a) (state_count b) (node_count a) (node_count b)
 
   nodes_kind : (x y : ℕ) → y < node_count b → PairAt C (states_at a b) (nodes_at a b) x y (node_of a x) (node_of b y)
-  nodes_kind x y y< = go (node_of a x) (node_of b y) refl refl
+  nodes_kind x y y< = go (node_of a x) (node_of b y) (ap (place_owner a b) here) (ap (place_degree a b) here) (λ i. ap (λ P. place_successor a b P i) here)
     where
-      own : (n o : Node) → node_of a x ≡ n → node_of b y ≡ o → C.owner (nodes_at a b x y) ≡ pair_owner n o
-      own n o e e' = ap (place_owner a b) (nodes_place x y y<) ∙ ap₂ pair_owner e e'
+      here : pair_at a b (nodes_at a b x y) ≡ AtNodes x y
+      here = nodes_place x y y<
 
-      degree : (n o : Node) → node_of a x ≡ n → node_of b y ≡ o → C.degree (nodes_at a b x y) ≡ pair_degree n o
-      degree n o e e' = ap (place_degree a b) (nodes_place x y y<) ∙ ap₂ pair_degree e e'
-
-      next : (n o : Node) → node_of a x ≡ n → node_of b y ≡ o → (i : ℕ) → C.successor (nodes_at a b x y) i ≡ nodes_successor a b x y n o i
-      next n o e e' i = ap (λ P. place_successor a b P i) (nodes_place x y y<) ∙ ap₂ (λ k l. nodes_successor a b x y k l i) e e'
-
-      go : (n o : Node) → node_of a x ≡ n → node_of b y ≡ o → PairAt C (states_at a b) (nodes_at a b) x y n o
-      go (Leaf p) (Leaf q) e e' = (degree _ _ e e', next _ _ e e' 0)
-      go (Leaf p) (Either c d) e e' = (own _ _ e e', degree _ _ e e', next _ _ e e' 0, next _ _ e e' 1)
-      go (Leaf p) (Both c d) e e' = (own _ _ e e', degree _ _ e e', next _ _ e e' 0, next _ _ e e' 1)
-      go (Either l r) (Leaf q) e e' = (own _ _ e e', degree _ _ e e', next _ _ e e' 0, next _ _ e e' 1)
-      go (Either l r) (Either c d) e e' = (own _ _ e e', degree _ _ e e', next _ _ e e' 0, next _ _ e e' 1)
-      go (Either l r) (Both c d) e e' = (own _ _ e e', degree _ _ e e', next _ _ e e' 0, next _ _ e e' 1, next _ _ e e' 2, next _ _ e e' 3)
-      go (Both l r) (Leaf q) e e' = (own _ _ e e', degree _ _ e e', next _ _ e e' 0, next _ _ e e' 1)
-      go (Both l r) (Either c d) e e' = (own _ _ e e', degree _ _ e e', next _ _ e e' 0, next _ _ e e' 1, next _ _ e e' 2, next _ _ e e' 3)
-      go (Both l r) (Both c d) e e' = (own _ _ e e', degree _ _ e e', next _ _ e e' 0, next _ _ e e' 1)
+      go : (n o : Node) → C.owner (nodes_at a b x y) ≡ pair_owner n o → C.degree (nodes_at a b x y) ≡ pair_degree n o →
+          ((i : ℕ) → C.successor (nodes_at a b x y) i ≡ nodes_successor a b x y n o i) → PairAt C (states_at a b) (nodes_at a b) x y n o
+      go (Leaf p) (Leaf q) own degree next = (degree, next 0)
+      go (Leaf p) (Either c d) own degree next = (own, degree, next 0, next 1)
+      go (Leaf p) (Both c d) own degree next = (own, degree, next 0, next 1)
+      go (Either l r) (Leaf q) own degree next = (own, degree, next 0, next 1)
+      go (Either l r) (Either c d) own degree next = (own, degree, next 0, next 1)
+      go (Either l r) (Both c d) own degree next = (own, degree, next 0, next 1, next 2, next 3)
+      go (Both l r) (Leaf q) own degree next = (own, degree, next 0, next 1)
+      go (Both l r) (Either c d) own degree next = (own, degree, next 0, next 1, next 2, next 3)
+      go (Both l r) (Both c d) own degree next = (own, degree, next 0, next 1)
 
   module _ (x y : ℕ) (x< : x < node_count a) (y< : y < node_count b) where
     in_x : (l r i : ℕ) → (l < x) × (r < x) → nodes_at a b (side l r i) y < C.count
@@ -72,10 +69,6 @@ module _ (a b : Automaton) where
 
     in_y : (l r i : ℕ) → (l < y) × (r < y) → nodes_at a b x (side l r i) < C.count
     in_y l r i h = nodes_in x (side l r i) x< (omega (arith, side_below l r y i h.0 h.1))
-
-    -- the first automaton's node alone moves, at the first two positions
-    first_only : (i w w' : ℕ) → i < 2 → w < C.count → cond (ltb i 2) w w' < C.count
-    first_only i w w' i< h = subst (λ k. k < C.count) (sym (cond-true (ltb i 2) w w' (lt-ltb i 2 i<))) h
 
     -- both move
     first_then : (i w w' : ℕ) → w < C.count → w' < C.count → cond (ltb i 2) w w' < C.count
@@ -85,38 +78,33 @@ module _ (a b : Automaton) where
     nodes_stay (Leaf p) (Leaf q) h h' i i< = states_in p q h h'
     nodes_stay (Leaf p) (Either c d) h h' i i< = in_y c d (i % 2) h'
     nodes_stay (Leaf p) (Both c d) h h' i i< = in_y c d (i % 2) h'
-    nodes_stay (Either l r) (Leaf q) h h' i i< = first_only i _ _ i< (in_x l r (i % 2) h)
-    nodes_stay (Either l r) (Either c d) h h' i i< = first_only i _ _ i< (in_x l r (i % 2) h)
+    nodes_stay (Either l r) (Leaf q) h h' i i< = rw (lt-ltb i 2 i<) (in_x l r (i % 2) h)
+    nodes_stay (Either l r) (Either c d) h h' i i< = rw (lt-ltb i 2 i<) (in_x l r (i % 2) h)
     nodes_stay (Either l r) (Both c d) h h' i i< = first_then i _ _ (in_x l r (i % 2) h) (in_y c d (i % 2) h')
-    nodes_stay (Both l r) (Leaf q) h h' i i< = first_only i _ _ i< (in_x l r (i % 2) h)
+    nodes_stay (Both l r) (Leaf q) h h' i i< = rw (lt-ltb i 2 i<) (in_x l r (i % 2) h)
     nodes_stay (Both l r) (Either c d) h h' i i< = first_then i _ _ (in_x l r (i % 2) h) (in_y c d (i % 2) h')
     nodes_stay (Both l r) (Both c d) h h' i i< = in_y c d (i % 2) h'
 
-  module _ (fa : Formed a) (fb : Formed b) (same : a.letters ≡ b.letters) (some : 0 < a.letters) where
-    pub pair_sound : Sound C
-    pair_sound = record {
-      moves = λ v v<. elim (pair_known v v<) [
-        | inl (p, q, p<, q<, e) ↦ subst (λ P. 0 < place_degree a b P) (sym e) some
-        | inr (x, y, x<, y<, e) ↦ subst (λ P. 0 < place_degree a b P) (sym e) (degree_within (first_moves (node_of a x) (node_of b y)) (second_moves (node_of a x) (node_of b y))).0
-      ];
-      stays = λ v i v< i<. elim (pair_known v v<) [
-        | inl (p, q, p<, q<, e) ↦ subst (λ P. place_successor a b P i < C.count) (sym e)
-            (let l : i < a.letters = subst (λ P. i < place_degree a b P) e i< in nodes_in _ _ (fa.ruled p i p< l) (fb.ruled q i q< (omega arith)))
-        | inr (x, y, x<, y<, e) ↦ subst (λ P. place_successor a b P i < C.count) (sym e)
-            (nodes_stay x y x< y< (node_of a x) (node_of b y) (fa.named x x<) (fb.named y y<) i (subst (λ P. i < place_degree a b P) e i<))
-      ];
-    }
+module _ {a b : Automaton} (fa : Formed a) (fb : Formed b) (same : a.letters ≡ b.letters) (some : 0 < a.letters) where
+  pub pair_sound : Sound (pair_moves a b)
+  pair_sound = record {
+    moves = pair_each a b (λ P. 0 < place_degree a b P) (λ p q _ _. some)
+        (λ x y _ _. (degree_within (first_moves (node_of a x) (node_of b y)) (second_moves (node_of a x) (node_of b y))).0);
+    stays = λ v i v<. pair_each a b (λ P. i < place_degree a b P → place_successor a b P i < (C a b).count)
+        (λ p q p< q< l. nodes_in a b _ _ (fa.ruled p i p< l) (fb.ruled q i q< (omega arith)))
+        (λ x y x< y<. nodes_stay a b x y x< y< (node_of a x) (node_of b y) (fa.named x x<) (fb.named y y<) i) v v<;
+  }
 
-    pub pair_arena : (word : ℕ → ℕ) → ((i : ℕ) → word i < a.letters) → PairArena C a b word (states_at a b) (nodes_at a b)
-    pair_arena word reads = record {
-      sound = pair_sound;
-      even_zero = refl;
-      state_in = states_in;
-      node_in = nodes_in;
-      state_owner = λ p q p< q<. ap (place_owner a b) (states_place p q p< q<);
-      state_degree = λ p q i p< q<. subst (λ P. word i < place_degree a b P) (sym (states_place p q p< q<)) (reads i);
-      state_next = λ p q i p< q<. ap (λ P. place_successor a b P (word i)) (states_place p q p< q<);
-      state_priority = λ p q p< q<. ap (place_priority a b) (states_place p q p< q<);
-      node_high = λ x y x< y<. ap (place_priority a b) (nodes_place x y y<);
-      node_at = λ x y x< y<. nodes_kind x y y<;
-    }
+  pub pair_arena : (word : ℕ → ℕ) → ((i : ℕ) → word i < a.letters) → PairArena (pair_moves a b) a b word (states_at a b) (nodes_at a b)
+  pair_arena word reads = record {
+    sound = pair_sound;
+    even_zero = refl;
+    state_in = states_in a b;
+    node_in = nodes_in a b;
+    state_owner = λ p q p< q<. ap (place_owner a b) (states_place a b p q p< q<);
+    state_degree = λ p q i p< q<. rw (states_place a b p q p< q<) (reads i);
+    state_next = λ p q i p< q<. ap (λ P. place_successor a b P (word i)) (states_place a b p q p< q<);
+    state_priority = λ p q p< q<. ap (place_priority a b) (states_place a b p q p< q<);
+    node_high = λ x y x< y<. ap (place_priority a b) (nodes_place a b x y y<);
+    node_at = λ x y x< y<. nodes_kind a b x y y<;
+  }

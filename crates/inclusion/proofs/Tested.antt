@@ -1,6 +1,6 @@
 -- The test of stratification holds exactly of the stratified automata.
 use Rattle.std.proofs.Common.{◌≡◌, ℕ, zero, suc, ◌<◌, ◌≤◌, Bool, true, ◌&&◌, eqb, ◌⊎◌, Some, None, Option, sym, refl, ap, ◌∙◌, inl, inr, arith}
-use Rattle.std.proofs.lemmas.Bool.{cases_lt, and_parts, and_from, or_cases, leb-true, le-leb, eqb-true, both_ways}
+use Rattle.std.proofs.lemmas.Bool.{cases_lt, and_parts, and_from, or_cases, leb-true, le-leb, eqb-true}
 use Rattle.parity.proofs.Below.{all_gives, all_from}
 use Rattle.draft.specs.declared.parts.Node.{Node}
 use Rattle.draft.specs.declared.parts.Node.TheVariants.{Leaf, Either, Both}
@@ -16,7 +16,7 @@ module _ (a : Automaton) (w : WellFormed a) (b : ℕ) where
   one_low low y l r (inr e) t = ap low (eqb-true y r e) ∙ (and_parts (low l) (low r) t).1
 
   child_low : (low : ℕ → Bool) (y : ℕ) (n : Node) → is_child n y ≡ true → node_low a b low n ≡ true → low y ≡ true
-  child_low low y (Leaf q) c t = absurd (both_ways true (sym c) refl)
+  child_low low y (Leaf q) c t = cc
   child_low low y (Either l r) c t = one_low low y l r (or_cases (eqb y l) (eqb y r) c) t
   child_low low y (Both l r) c t = one_low low y l r (or_cases (eqb y l) (eqb y r) c) t
 
@@ -36,15 +36,10 @@ module _ (a : Automaton) (w : WellFormed a) (b : ℕ) where
   low_from zero x h = refl
   low_from (suc d) x h = go (node_of a x) refl (λ y c. low_from d y (λ q n. h q (at_child c n)))
     where
-      both : (n : Node) (l r : ℕ) → node_of a x ≡ n → ((y : ℕ) → is_child (node_of a x) y ≡ true → low_to a b d y ≡ true) → is_child n l ≡ true → is_child n r ≡ true → node_low a b (low_to a b d) n ≡ (low_to a b d l && low_to a b d r) → node_low a b (low_to a b d) (node_of a x) ≡ true
-      both n l r e rec left right parts =
-          ap (node_low a b (low_to a b d)) e ∙ parts
-          ∙ and_from _ _ (rec l (ap (λ (k : Node). is_child k l) e ∙ left)) (rec r (ap (λ (k : Node). is_child k r) e ∙ right))
-
-      go : (n : Node) → node_of a x ≡ n → ((y : ℕ) → is_child (node_of a x) y ≡ true → low_to a b d y ≡ true) → node_low a b (low_to a b d) (node_of a x) ≡ true
-      go (Leaf q) e rec = ap (node_low a b (low_to a b d)) e ∙ le-leb _ _ (h q (at_leaf e))
-      go (Either l r) e rec = both (Either l r) l r e rec (left_child l r) (right_child l r) refl
-      go (Both l r) e rec = both (Both l r) l r e rec (left_child l r) (right_child l r) refl
+      go : (n : Node) → node_of a x ≡ n → ((y : ℕ) → is_child n y ≡ true → low_to a b d y ≡ true) → node_low a b (low_to a b d) n ≡ true
+      go (Leaf q) e rec = le-leb _ _ (h q (at_leaf e))
+      go (Either l r) e rec = and_from _ _ (rec l (left_child l r)) (rec r (right_child l r))
+      go (Both l r) e rec = and_from _ _ (rec l (left_child l r)) (rec r (right_child l r))
 
   rule_from : (o : Option ℕ) → ((x : ℕ) → o ≡ Some x → Low x) → rule_low a b o ≡ true
   rule_from (Some x) h = low_from (suc x) x (h x refl)
@@ -53,7 +48,7 @@ module _ (a : Automaton) (w : WellFormed a) (b : ℕ) where
 -- a rule is a state's
 rule_in : (a : Automaton) (p letter x : ℕ) → rule_of a p letter ≡ Some x → p < state_count a
 rule_in a p letter x e =
-    elim (cases_lt p (state_count a)) [ inl l ↦ l | inr l ↦ (let n = rule_past_state a p letter l in let z : ◌≡◌ {A = ℕ} 0 1 = cc in absurd (omega arith)) ]
+    elim (cases_lt p (state_count a)) [ inl l ↦ l | inr l ↦ (let n = rule_past_state a p letter l in cc) ]
 
 pub stratified_tested : StratifiedTested
 unfolding is_stratified state_low

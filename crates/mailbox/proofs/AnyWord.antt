@@ -16,7 +16,7 @@ use Rattle.runs.proofs.Insides.{inside_sound}
 pub any_word : (a : Automaton) → WellFormed a → is_complete a ≡ true → (prefix period : List ℕ) → Readable a.letters prefix period → (q : ℕ) → q < state_count a → (Accepts a (letter prefix period) q → ZeroWins (word_game a prefix period) (state_vertex (state_count a) 0 q)) × (ZeroWins (word_game a prefix period) (state_vertex (state_count a) 0 q) → Accepts a (letter prefix period) q)
 any_word a w c prefix period r q q< =
     let f = formed a w c in
-    let sound = inside_sound (word_moves a prefix period) (word_sound a f prefix period r) in
+    let sound = inside_sound (word_sound f r) in
     let v = state_vertex (state_count a) 0 q in
     let v< = start_in a f prefix period r q q< in
     let decides = accepting a w c prefix period r q q< in

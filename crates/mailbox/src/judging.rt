@@ -5,19 +5,17 @@ ghost use Rattle.contain.specs.Containing.{contain_answer};
 ghost use Rattle.mailbox.specs.Promise.{Promise};
 
 use contain::{ContainFault, Containment, contain};
-use draft::Draft;
+use draft::Start;
 use game::Outcome;
 
 // What contain answers and writes. The second clause is the whole promise: it holds of every two drafts, not of these alone.
 pub fn judge<'a>(
-    first: &'a Draft,
-    first_state: usize,
-    second: &'a Draft,
-    second_state: usize,
+    first: Start<'a>,
+    second: Start<'a>,
     out: &mut [Outcome],
 ) -> Result<Containment, ContainFault>
-    ensures answer { (result, out.new) ≡ contain_answer (automaton first.now) first_state (automaton second.now) second_state out.old }
+    ensures answer { (result, out.new) ≡ contain_answer (automaton first.entry.draft.now) first.entry.state (automaton second.entry.draft.now) second.entry.state out.old }
     ensures promise { Promise }
 {
-    contain(first, first_state, second, second_state, out)
+    contain(first, second, out)
 }

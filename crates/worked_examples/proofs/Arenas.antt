@@ -12,7 +12,6 @@ use Rattle.parity.proofs.Tabled.{Tabled, tabled}
 use Rattle.parity.proofs.Mirrors.{mirrored}
 use Rattle.arena.specs.Stored.{asked, first_fault}
 use Rattle.worked_examples.specs.Arenas.{two_bytes, three_bytes, drawn_bytes, two, three, drawn}
-use Rattle.worked_examples.proofs.Winners.{won}
 
 pub two_asked : asked two_bytes ≡ Ok 2
 unfolding first_fault
@@ -40,7 +39,7 @@ drawn_tabled = tabled drawn _ _ refl refl
 
 pub two_won : (winner two 0 ≡ Zero) × (winner two 1 ≡ One)
 unfolding favoured
-two_won = (won (two_tabled 0 (lit< tt)), won (two_tabled 1 (lit< tt)))
+two_won = ((two_tabled 0 (lit< tt)).winner_at, (two_tabled 1 (lit< tt)).winner_at)
 
 pub two_mirrored : (winner (mirror two) 0 ≡ One) × (winner (mirror two) 1 ≡ Zero)
 unfolding sound_all all_below
@@ -50,7 +49,7 @@ two_mirrored =
 
 pub three_won : (winner three 0 ≡ Zero) × (winner three 1 ≡ One) × (winner three 2 ≡ One)
 unfolding favoured
-three_won = (won (three_tabled 0 (lit< tt)), won (three_tabled 1 (lit< tt)), won (three_tabled 2 (lit< tt)))
+three_won = ((three_tabled 0 (lit< tt)).winner_at, (three_tabled 1 (lit< tt)).winner_at, (three_tabled 2 (lit< tt)).winner_at)
 
 pub three_moves : (move three 0 ≡ 0) × (move three 1 ≡ 1) × (move three 2 ≡ 0)
 unfolding move_by least favoured

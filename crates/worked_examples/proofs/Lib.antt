@@ -1,5 +1,4 @@
 -- The lemmas, those that others cite first.
-pub mod Winners
 pub mod Arenas
 pub mod Drafts
 pub mod Verdicts

@@ -18,7 +18,6 @@ use Rattle.worked_examples.specs.Drafts.{mailbox_bytes, mailbox, posted_bytes, p
 use Rattle.worked_examples.specs.Answered.{Compares}
 use Rattle.worked_examples.proofs.Comparing.{compares_by, host_by}
 use Rattle.worked_examples.proofs.Drafts.{mailbox_made, posted_made, mailbox_formed, posted_formed}
-use Rattle.worked_examples.proofs.Winners.{won}
 
 forth_tabled : (v : ℕ) → v < 12 →
     Tabled (pair_game mailbox posted) (4 ∷ 4 ∷ 4 ∷ 4 ∷ 4 ∷ 2 ∷ 4 ∷ 4 ∷ 4 ∷ 4 ∷ 4 ∷ 2 ∷ []) (2 ∷ 0 ∷ 4 ∷ 0 ∷ 0 ∷ 0 ∷ 3 ∷ 1 ∷ 5 ∷ 1 ∷ 1 ∷ 1 ∷ []) v
@@ -41,11 +40,11 @@ back_asked = refl
 
 forth_won : pair_winner mailbox posted 0 0 ≡ Zero
 unfolding favoured
-forth_won = won (forth_tabled 0 (lit< tt))
+forth_won = (forth_tabled 0 (lit< tt)).winner_at
 
 back_won : pair_winner posted mailbox 0 0 ≡ One
 unfolding favoured
-back_won = won (back_tabled 0 (lit< tt))
+back_won = (back_tabled 0 (lit< tt)).winner_at
 
 pub mailbox_in_posted : Compares mailbox 0 posted 0 Contained
 mailbox_in_posted = compares_by mailbox 0 posted 0 Zero forth_asked forth_won

@@ -1,10 +1,8 @@
 -- From the winner of the word game to accept's answer, and from an automaton's answer to the turned one's.
-use Rattle.std.proofs.Common.{◌≡◌, ℕ, ◌+◌, ◌*◌, ◌≤◌, leb, List, length, Ok, Result, sym, refl, ap, ◌∙◌, subst}
-use Rattle.std.proofs.lemmas.Bool.{cond-true, le-leb}
+use Rattle.std.proofs.Common.{◌≡◌, ℕ, ◌+◌, ◌*◌, ◌≤◌, List, length, Ok, Result, sym, refl, ap, ◌∙◌, subst}
+use Rattle.std.proofs.lemmas.Bool.{le-leb}
 use Rattle.refusal.specs.declared.Refusal.{Refusal}
 use Rattle.parity.specs.declared.player.Player.{Player}
-use Rattle.game.specs.Outcomes.{solved}
-use Rattle.game.specs.declared.outcome.Outcome.{Outcome}
 use Rattle.draft.specs.Automaton.{Automaton}
 use Rattle.draft.specs.Calls.{turned, turn_over}
 use Rattle.draft.specs.WellFormed.{WellFormed}
@@ -12,7 +10,7 @@ use Rattle.runs.specs.WordGame.{steps, word_game}
 use Rattle.runs.specs.Accepting.{word_winner}
 use Rattle.draft.proofs.Dual.{states_same, nodes_same}
 use Rattle.word.specs.Asking.{asked}
-use Rattle.word.specs.Answer.{verdict_of, once_asked, once_solved, accept_answer}
+use Rattle.word.specs.Answer.{verdict_of, accept_answer}
 use Rattle.word.specs.TurnOpposes.{opposed}
 use Rattle.word.specs.Verdicts.{opposite}
 use Rattle.word.specs.declared.verdict.Verdict.{Verdict}
@@ -22,12 +20,7 @@ use Rattle.worked_examples.specs.Answered.{Answers}
 module _ (a : Automaton) (q : ℕ) (prefix period : List ℕ) where
   -- player 0's win is acceptance, where no question is answered no
   pub answers_by : (x : Player) → asked a q prefix period ≡ Ok tt → word_winner a prefix period q ≡ x → Answers a q prefix period (verdict_of x)
-  answers_by x allowed won records room =
-      let G = word_game a prefix period in
-      let verdict = verdict_of (word_winner a prefix period q) in
-      ap (λ (r : Result (Unit {0}) Refusal). (once_asked r (once_solved verdict (solved G records)) records).0) allowed
-      ∙ ap (λ (s : Result (Unit {0}) Refusal × List Outcome). (once_solved verdict s).0) (cond-true (leb G.count (length records)) _ _ (le-leb G.count (length records) room))
-      ∙ ap (λ (y : Player). Ok (verdict_of y)) won
+  answers_by x allowed won records room = rw (allowed, le-leb (word_game a prefix period).count (length records) room, won)
 
   -- the turned automaton has as many vertices, and gives the other verdict
   pub turned_by : (v : Verdict) → WellFormed a → turn_over a ≡ (Ok tt, turned a) → Answers a q prefix period v → Answers (turned a) q prefix period (opposite v)

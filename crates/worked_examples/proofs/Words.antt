@@ -12,7 +12,6 @@ use Rattle.word.specs.Asking.{letters_known}
 use Rattle.word.specs.declared.verdict.Verdict.TheVariants.{Rejected, Accepted}
 use Rattle.worked_examples.specs.Drafts.{branching, post, take, mailbox}
 use Rattle.worked_examples.specs.Answered.{Answers}
-use Rattle.worked_examples.proofs.Winners.{won}
 use Rattle.worked_examples.proofs.Drafts.{branching_formed, branching_turns}
 use Rattle.worked_examples.proofs.Verdicts.{answers_by, turned_by}
 
@@ -35,8 +34,8 @@ takes_tabled = tabled (word_game mailbox (post ∷ []) (take ∷ [])) _ _ refl r
 pub branching_answers : Answers branching 0 [] (0 ∷ []) Accepted × Answers branching 1 [] (0 ∷ []) Rejected
 unfolding is_complete is_ruled letters_known all_below favoured
 branching_answers = (
-  answers_by branching 0 [] (0 ∷ []) Zero refl (won (branching_tabled 0 (lit< tt))),
-  answers_by branching 1 [] (0 ∷ []) One refl (won (branching_tabled 1 (lit< tt))),
+  answers_by branching 0 [] (0 ∷ []) Zero refl (branching_tabled 0 (lit< tt)).winner_at,
+  answers_by branching 1 [] (0 ∷ []) One refl (branching_tabled 1 (lit< tt)).winner_at,
 )
 
 pub turned_answers : Answers (turned branching) 0 [] (0 ∷ []) Rejected × Answers (turned branching) 1 [] (0 ∷ []) Accepted
@@ -48,6 +47,6 @@ turned_answers = (
 pub mailbox_answers : Answers mailbox 0 [] (post ∷ take ∷ []) Accepted × Answers mailbox 0 (post ∷ []) (take ∷ []) Rejected
 unfolding is_complete is_ruled letters_known all_below favoured
 mailbox_answers = (
-  answers_by mailbox 0 [] (post ∷ take ∷ []) Zero refl (won (turns_tabled 0 (lit< tt))),
-  answers_by mailbox 0 (post ∷ []) (take ∷ []) One refl (won (takes_tabled 0 (lit< tt))),
+  answers_by mailbox 0 [] (post ∷ take ∷ []) Zero refl (turns_tabled 0 (lit< tt)).winner_at,
+  answers_by mailbox 0 (post ∷ []) (take ∷ []) One refl (takes_tabled 0 (lit< tt)).winner_at,
 )

@@ -1,5 +1,5 @@
 // Asks whether two drafts can be compared, and makes their arena.
-ghost use Rattle.std.specs.Prelude.{◌≡◌, Ok};
+ghost use Rattle.std.specs.Prelude.{◌≡◌, cond, Ok, Err};
 ghost use Rattle.draft.specs.Meaning.{meaning as automaton};
 ghost use Rattle.contain.specs.Answers.{of_draft};
 ghost use Rattle.contain.specs.Asking.{asked};
@@ -7,44 +7,35 @@ ghost use Rattle.contain.specs.Asking.{asked};
 use super::PairArena;
 use crate::fault::{ContainFault, Which};
 use crate::strata::stratified;
-use draft::Draft;
+use arena::Grid;
+use draft::Start;
 use refusal::Refusal;
 
 // The questions of contain but for the room: both drafts are complete, they have as many letters, both states exist, and both
 // drafts are stratified.
-pub fn ask(
-    first: &Draft,
-    first_state: usize,
-    second: &Draft,
-    second_state: usize,
-) -> Result<(), ContainFault>
-    ensures { result ≡ asked (automaton first.now) first_state (automaton second.now) second_state }
+pub fn ask(first: Start<'_>, second: Start<'_>) -> Result<(), ContainFault>
+    ensures { result ≡ asked (automaton first.entry.draft.now) first.entry.state (automaton second.entry.draft.now) second.entry.state }
 {
-    if !first.complete() {
-        return Err(of(Which::First, Refusal::Incomplete));
-    }
-    if !second.complete() {
-        return Err(of(Which::Second, Refusal::Incomplete));
-    }
-    if first.letters() != second.letters() {
-        return Err(ContainFault::from(Refusal::Alphabets));
-    }
-    if first_state >= first.state_count() {
-        return Err(of(Which::First, Refusal::NoState));
-    }
-    if second_state >= second.state_count() {
-        return Err(of(Which::Second, Refusal::NoState));
-    }
-    if !stratified(first) {
-        return Err(of(Which::First, Refusal::NotStratified));
-    }
-    if !stratified(second) {
-        return Err(of(Which::Second, Refusal::NotStratified));
-    }
-    Ok(())
+    use Refusal::{Alphabets, Incomplete, NoState, NotStratified};
+    use Which::{First, Second};
+    let (a, b) = (first.draft, second.draft);
+    require(a.complete(), of(First, Incomplete))?;
+    require(b.complete(), of(Second, Incomplete))?;
+    require(a.letters() == b.letters(), ContainFault::from(Alphabets))?;
+    require(first.state < a.state_count(), of(First, NoState))?;
+    require(second.state < b.state_count(), of(Second, NoState))?;
+    require(stratified(a), of(First, NotStratified))?;
+    require(stratified(b), of(Second, NotStratified))
 }
 
-// A refusal of one draft.
+// The fault, unless the answer to its question is yes.
+fn require(yes: bool, fault: ContainFault) -> Result<(), ContainFault>
+    ensures { result ≡ cond yes (Ok tt) (Err fault) }
+{
+    if yes { Ok(()) } else { Err(fault) }
+}
+
+// A refusal of one draft; `From` of a refusal alone speaks of none.
 fn of(which: Which, refusal: Refusal) -> ContainFault
     ensures { result ≡ of_draft which refusal }
 {
@@ -55,25 +46,21 @@ fn of(which: Which, refusal: Refusal) -> ContainFault
 }
 
 // The arena of two drafts that were asked about.
-pub fn make<'a>(
-    first: &'a Draft,
-    first_state: usize,
-    second: &'a Draft,
-    second_state: usize,
-) -> PairArena<'a>
-    requires { asked (automaton first.now) first_state (automaton second.now) second_state ≡ Ok tt }
-    ensures { (automaton result.first.now ≡ automaton first.now) × (automaton result.second.now ≡ automaton second.now) }
+pub fn make<'a>(first: Start<'a>, second: Start<'a>) -> PairArena<'a>
+    requires { asked (automaton first.draft.now) first.state (automaton second.draft.now) second.state ≡ Ok tt }
+    ensures { (automaton result.first.now ≡ automaton first.entry.draft.now) × (automaton result.second.now ≡ automaton second.entry.draft.now) }
 {
-    let states = second.state_count();
-    let nodes = second.node_count();
-    let stated = first.state_count() * states;
+    let (first, second) = (first.draft, second.draft);
     PairArena {
         first,
         second,
-        letters: first.letters(),
-        states,
-        nodes,
-        stated,
-        count: stated + first.node_count() * nodes,
+        states: Grid {
+            rows: first.state_count() as u8,
+            columns: second.state_count() as u8,
+        },
+        nodes: Grid {
+            rows: first.node_count() as u8,
+            columns: second.node_count() as u8,
+        },
     }
 }

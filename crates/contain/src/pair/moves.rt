@@ -8,71 +8,71 @@ use parity::Player;
 fn is_either(node: Node) -> bool
     ensures { result ≡ is_either node }
 {
-    match node {
-        Node::Leaf(_) => false,
-        Node::Either(_, _) => true,
-        Node::Both(_, _) => false,
-    }
+    matches!(node, Node::Either(..))
 }
 
 fn is_both(node: Node) -> bool
     ensures { result ≡ is_both node }
 {
-    match node {
-        Node::Leaf(_) => false,
-        Node::Either(_, _) => false,
-        Node::Both(_, _) => true,
+    matches!(node, Node::Both(..))
+}
+
+// A node of the first draft, and one of the second.
+#[derive(Clone, Copy)]
+pub(crate) struct Sides {
+    pub(crate) first: Node,
+    pub(crate) second: Node,
+}
+
+impl Sides {
+    // Player 1 moves in the first draft at either, and in the second at both.
+    fn one_moves(self) -> bool
+        ensures { result ≡ one_moves self.first self.second }
+    {
+        is_either(self.first) || is_both(self.second)
     }
-}
 
-// Player 1 moves in the first draft at either, and in the second at both.
-fn one_moves(x: Node, y: Node) -> bool
-    ensures { result ≡ one_moves x y }
-{
-    is_either(x) || is_both(y)
-}
-
-// Whether the first draft's node moves.
-pub(crate) fn first_moves(x: Node, y: Node) -> bool
-    ensures { result ≡ first_moves x y }
-{
-    if one_moves(x, y) {
-        is_either(x)
-    } else {
-        is_both(x)
+    // Whether the first draft's node moves.
+    pub(crate) fn first_moves(self) -> bool
+        ensures { result ≡ first_moves self.first self.second }
+    {
+        if self.one_moves() {
+            is_either(self.first)
+        } else {
+            is_both(self.first)
+        }
     }
-}
 
-// Whether the second draft's node moves.
-pub(crate) fn second_moves(x: Node, y: Node) -> bool
-    ensures { result ≡ second_moves x y }
-{
-    if one_moves(x, y) {
-        is_both(y)
-    } else {
-        is_either(y)
+    // Whether the second draft's node moves. What either is to the first draft, both is to the second.
+    pub(crate) fn second_moves(self) -> bool
+        ensures { result ≡ second_moves self.first self.second }
+    {
+        if self.one_moves() {
+            is_both(self.second)
+        } else {
+            is_either(self.second)
+        }
     }
-}
 
-pub(crate) fn owner_of(x: Node, y: Node) -> Player
-    ensures { result ≡ pair_owner x y }
-{
-    if one_moves(x, y) {
-        Player::One
-    } else {
-        Player::Zero
+    pub(crate) fn owner(self) -> Player
+        ensures { result ≡ pair_owner self.first self.second }
+    {
+        if self.one_moves() {
+            Player::One
+        } else {
+            Player::Zero
+        }
     }
-}
 
-// Two moves for each node that moves; two leaves have one.
-pub(crate) fn degree_of(x: Node, y: Node) -> usize
-    ensures { result ≡ pair_degree x y }
-{
-    match (first_moves(x, y), second_moves(x, y)) {
-        (true, true) => 4,
-        (true, false) => 2,
-        (false, true) => 2,
-        (false, false) => 1,
+    // Two moves for each node that moves; two leaves have one.
+    pub(crate) fn degree(self) -> usize
+        ensures { result ≡ pair_degree self.first self.second }
+    {
+        match (self.first_moves(), self.second_moves()) {
+            (true, true) => 4,
+            (false, false) => 1,
+            _ => 2,
+        }
     }
 }
 
@@ -82,8 +82,7 @@ pub(crate) fn part(node: Node, i: usize) -> u8
 {
     match node {
         Node::Leaf(state) => state,
-        Node::Either(left, right) => if i == 0 { left } else { right },
-        Node::Both(left, right) => if i == 0 { left } else { right },
+        Node::Either(left, right) | Node::Both(left, right) => if i == 0 { left } else { right },
     }
 }
 

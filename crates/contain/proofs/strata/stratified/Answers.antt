@@ -1,22 +1,16 @@
--- The loop finds the first state that does not pass, or none.
-use Rattle.std.proofs.Common.{◌<◌, ◌≤◌, sym, arith, below_more}
+-- Each state is tested.
+use Rattle.std.proofs.Common.{◌∙◌, refl, rules, arith}
+use Rattle.std.proofs.lemmas.Iterator.{YieldsList-from_range}
+use Rattle.std.proofs.lemmas.Iterator.Search.{all_from_yields_List}
 use Rattle.draft.specs.Automaton.{state_count}
 use Rattle.draft.specs.Meaning.{meaning}
-use Rattle.draft.proofs.AllBelow.{one_fails, none_fails}
-use Rattle.inclusion.specs.Stratified.{is_stratified}
+use Rattle.inclusion.specs.Stratified.{is_stratified, state_low}
+use Rattle.draft.proofs.AllBelow.{all_in_range}
 use Rattle.contain.proofs.strata.stratified.Goals as goal
-
-pub loop-state-preserved : goal.loop-state-preserved
-loop-state-preserved c = below_more _ _ c.loop-state.invariant (sym c.if-not-state_is_low.ensures)
-
-pub returns-then-not-state_is_low : goal.returns-then-not-state_is_low
-unfolding is_stratified
-returns-then-not-state_is_low c =
-    let l : c.loop-state.state < state_count (meaning c.args.draft.now) = omega arith in
-    one_fails _ _ _ l (sym c.if-not-state_is_low.ensures)
 
 pub returns : goal.returns
 unfolding is_stratified
 returns c =
-    let l : state_count (meaning c.args.draft.now) ≤ c.loop-state.state = omega arith in
-    none_fails _ _ _ l c.loop-state.invariant
+    let a = meaning c.args.draft.now in
+    all_from_yields_List (state_low a) _ _ _ c.all.ensures.ran (YieldsList-from_range 0 c.state_count.result (state_count a) refl (omega arith)) (λ x b q k. search rules)
+    ∙ all_in_range (state_count a) (state_low a)

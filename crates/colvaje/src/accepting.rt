@@ -3,81 +3,61 @@ use crate::command::Question;
 use crate::drafts::read;
 use crate::failure::Failure;
 use crate::solving::unsolved;
-use crate::why::{Told, explain};
-use draft::Draft;
-use game::Outcome;
-use runs::WordPlace;
-use std::io;
-use word::{Verdict, accept, ask, make};
+use crate::why::explain;
+use draft::Start;
+use std::fmt;
+use std::process::ExitCode;
+use word::{MOST_VERTICES, Verdict, Word, accept, ask, make};
 
-pub(crate) fn accept_file(rt: &HostRuntime, question: &Question) -> Result<(), Failure> {
-    let draft = read(rt, &question.source)?;
-    let prefix = question.prefix.as_slice();
-    let period = question.period.as_slice();
-    decide(rt, &draft, question.state, prefix, period, question.why)
+pub(crate) fn accept_file(rt: &HostRuntime, question: &Question<'_>) -> Result<ExitCode, Failure> {
+    let draft = read(rt, question.automaton.source)?;
+    let start = Start {
+        draft: &draft,
+        state: question.automaton.state,
+    };
+    let word = Word {
+        prefix: &question.prefix,
+        period: &question.period,
+    };
+    decide(rt, start, word, question.why)
 }
 
 // Says what was asked and, last, what the answer is.
 pub(crate) fn decide<'a>(
     rt: &HostRuntime,
-    draft: &'a Draft,
-    state: usize,
-    prefix: &'a [u8],
-    period: &'a [u8],
+    start: Start<'a>,
+    word: Word<'a>,
     why: bool,
-) -> Result<(), Failure> {
-    // as many records as a word of 64 letters can want: 64 times 32 states and 128 nodes
-    let mut records = unsolved(rt.alloc(), 10240)?;
-    let verdict = accept(draft, state, prefix, period, &mut records)?;
-    print_question(rt, state, prefix, period)?;
-    if why {
-        print_reason(rt, draft, state, prefix, period, &records)?;
+) -> Result<ExitCode, Failure> {
+    let mut records = unsolved(rt.alloc(), MOST_VERTICES)?;
+    let verdict = accept(start, word, &mut records)?;
+    println!(rt;
+        "asked: is it accepted from s{}, the word {}({}) for ever?",
+        start.state,
+        Letters(word.prefix),
+        Letters(word.period)
+    )?;
+    if why && ask(start, word).is_ok() {
+        // a state at step 0 has its own number
+        explain(rt, &make(start, word), &records, start.state)?;
     }
-    match verdict {
-        Verdict::Accepted => Ok(println!(rt; "accepted")?),
-        Verdict::Rejected => {
-            println!(rt; "rejected")?;
-            Err(Failure::No)
+    let (answer, code) = match verdict {
+        Verdict::Accepted => ("accepted", ExitCode::SUCCESS),
+        Verdict::Rejected => ("rejected", ExitCode::FAILURE),
+    };
+    println!(rt; "{answer}")?;
+    Ok(code)
+}
+
+// Letters as they are typed, one hexadecimal digit each.
+#[derive(Clone, Copy)]
+struct Letters<'a>(&'a [u8]);
+
+impl fmt::Display for Letters<'_> {
+    fn fmt<W: fmt::Write>(&self, f: &mut fmt::Formatter<W>) -> fmt::Result {
+        for letter in self.0 {
+            write!(f, "{letter:x}")?;
         }
-    }
-}
-
-fn print_question(rt: &HostRuntime, state: usize, prefix: &[u8], period: &[u8]) -> io::Result<()> {
-    print!(rt; "asked: is it accepted from s{state}, the word ")?;
-    print_letters(rt, prefix)?;
-    print!(rt; "(")?;
-    print_letters(rt, period)?;
-    println!(rt; ") for ever?")
-}
-
-fn print_letters(rt: &HostRuntime, letters: &[u8]) -> io::Result<()> {
-    for letter in letters {
-        print!(rt; "{letter:x}")?;
-    }
-    Ok(())
-}
-
-// The winner's moves from the state at step 0 on.
-fn print_reason<'a>(
-    rt: &HostRuntime,
-    draft: &'a Draft,
-    state: usize,
-    prefix: &'a [u8],
-    period: &'a [u8],
-    records: &[Outcome],
-) -> Result<(), Failure> {
-    if ask(draft, state, prefix, period).is_ok() {
-        let arena = make(draft, state, prefix, period);
-        explain(rt, &arena, records, state)?;
-    }
-    Ok(())
-}
-
-impl Told for WordPlace {
-    fn tell(&self, rt: &HostRuntime) -> io::Result<()> {
-        match *self {
-            WordPlace::AtState(step, state) => print!(rt; "step {step} s{state}"),
-            WordPlace::AtNode(step, node) => print!(rt; "step {step} n{node}"),
-        }
+        Ok(())
     }
 }

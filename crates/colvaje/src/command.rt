@@ -2,189 +2,154 @@
 use crate::failure::Failure;
 use std::alloc::Global;
 
+// The names of files are the words that were typed.
 #[derive(Drop)]
-pub(crate) enum Command {
+pub(crate) enum Command<'a> {
     Help,
     Demo,
-    Solve { mirrored: bool, file: String },
-    Show(Source),
-    Turn { source: Source, out: String },
-    Accept(Question),
-    Contain(Comparison),
+    // whether the mirror is meant; as `why` below, what was typed, and tested in one place
+    Solve { mirrored: bool, file: &'a str },
+    Show(Source<'a>),
+    Turn { source: Source<'a>, out: &'a str },
+    Accept(Question<'a>),
+    Contain(Comparison<'a>),
 }
 
 // A draft file, and the number of letters with which it is loaded.
-#[derive(Drop)]
-pub(crate) struct Source {
+#[derive(Clone, Copy)]
+pub(crate) struct Source<'a> {
     pub(crate) letters: u32,
-    pub(crate) file: String,
+    pub(crate) file: &'a str,
 }
 
-// Whether a draft accepts a word from a state, and whether the reason is wanted.
-#[derive(Drop)]
-pub(crate) struct Question {
-    pub(crate) source: Source,
+// A draft file with the draft's initial state.
+#[derive(Clone, Copy)]
+pub(crate) struct Automaton<'a> {
+    pub(crate) source: Source<'a>,
     pub(crate) state: usize,
+}
+
+// Whether an automaton accepts a word, and whether the reason is wanted.
+#[derive(Drop)]
+pub(crate) struct Question<'a> {
+    pub(crate) automaton: Automaton<'a>,
     pub(crate) prefix: Vec<u8>,
     pub(crate) period: Vec<u8>,
     pub(crate) why: bool,
 }
 
-// Whether a draft from a state is contained in another from a state of its own, and whether the reason is wanted.
-#[derive(Drop)]
-pub(crate) struct Comparison {
-    pub(crate) letters: u32,
-    pub(crate) first: String,
-    pub(crate) first_state: usize,
-    pub(crate) second: String,
-    pub(crate) second_state: usize,
+// Whether an automaton is contained in another, and whether the reason is wanted.
+#[derive(Clone, Copy)]
+pub(crate) struct Comparison<'a> {
+    pub(crate) first: Automaton<'a>,
+    pub(crate) second: Automaton<'a>,
     pub(crate) why: bool,
 }
 
-// The command in the words after the program's name.
-pub(crate) fn parse(heap: Global, words: &[String]) -> Result<Command, Failure> {
-    let Some(name) = words.first() else {
-        return Ok(Command::Demo);
-    };
-    let rest = &words[1..];
-    match name.as_str() {
-        "demo" if rest.is_empty() => Ok(Command::Demo),
-        "--help" | "-h" | "help" => Ok(Command::Help),
-        "solve" => parse_solve(heap, rest),
-        "show" => parse_show(heap, rest),
-        "turn" => parse_turn(heap, rest),
-        "accept" => parse_accept(heap, rest),
-        "contain" => parse_contain(heap, rest),
-        _ => Err(Failure::Usage),
-    }
-}
-
-fn parse_solve(heap: Global, words: &[String]) -> Result<Command, Failure> {
-    let (mirrored, file) = match words {
-        [file] => (false, file.as_str()),
-        [flag, file] if flag.as_str() == "--mirror" => (true, file.as_str()),
-        _ => return Err(Failure::Usage),
-    };
-    let file = file_name(heap, file)?;
-    Ok(Command::Solve { mirrored, file })
-}
-
-fn parse_show(heap: Global, words: &[String]) -> Result<Command, Failure> {
-    match words {
-        [letters, file] => Ok(Command::Show(parse_source(heap, letters.as_str(), file.as_str())?)),
-        _ => Err(Failure::Usage),
-    }
-}
-
-fn parse_turn(heap: Global, words: &[String]) -> Result<Command, Failure> {
-    match words {
-        [letters, file, out] => {
-            let source = parse_source(heap, letters.as_str(), file.as_str())?;
-            let out = file_name(heap, out.as_str())?;
-            Ok(Command::Turn { source, out })
+impl<'a> Command<'a> {
+    // The command in the words after the program's name.
+    pub(crate) fn parse(heap: Global, words: &[&'a str]) -> Result<Self, Failure> {
+        match words {
+            [] | ["demo"] => Ok(Command::Demo),
+            ["--help" | "-h" | "help", ..] => Ok(Command::Help),
+            ["solve", file] => Command::solve(false, file),
+            ["solve", "--mirror", file] => Command::solve(true, file),
+            ["show", letters, file] => Ok(Command::Show(Source::parse(letters, file)?)),
+            ["turn", letters, file, out] => Command::turn(letters, file, out),
+            ["accept", rest @ ..] => Ok(Command::Accept(Question::parse(heap, rest)?)),
+            ["contain", rest @ ..] => Ok(Command::Contain(Comparison::parse(rest)?)),
+            _ => Err(Failure::Usage),
         }
-        _ => Err(Failure::Usage),
+    }
+
+    fn solve(mirrored: bool, file: &'a str) -> Result<Self, Failure> {
+        let file = file_name(file)?;
+        Ok(Command::Solve { mirrored, file })
+    }
+
+    fn turn(letters: &str, file: &'a str, out: &'a str) -> Result<Self, Failure> {
+        let source = Source::parse(letters, file)?;
+        let out = file_name(out)?;
+        Ok(Command::Turn { source, out })
     }
 }
 
-fn parse_accept(heap: Global, words: &[String]) -> Result<Command, Failure> {
-    let (why, rest) = without_why(words);
-    parse_question(heap, rest, why)
-}
-
-fn parse_question(heap: Global, words: &[String], why: bool) -> Result<Command, Failure> {
-    match words {
-        [letters, file, state, prefix, period] => {
-            let source = parse_source(heap, letters.as_str(), file.as_str())?;
-            let state = number(state.as_str())? as usize;
-            let prefix = word(heap, prefix.as_str())?;
-            let period = word(heap, period.as_str())?;
-            Ok(Command::Accept(Question {
-                source,
-                state,
-                prefix,
-                period,
-                why,
-            }))
-        }
-        _ => Err(Failure::Usage),
+impl<'a> Source<'a> {
+    fn parse(letters: &str, file: &'a str) -> Result<Self, Failure> {
+        let letters = number(letters)?;
+        let file = file_name(file)?;
+        Ok(Source { letters, file })
     }
 }
 
-fn parse_contain(heap: Global, words: &[String]) -> Result<Command, Failure> {
-    let (why, rest) = without_why(words);
-    parse_comparison(heap, rest, why)
-}
-
-fn parse_comparison(heap: Global, words: &[String], why: bool) -> Result<Command, Failure> {
-    match words {
-        [letters, first, first_state, second, second_state] => {
-            let letters = number(letters.as_str())?;
-            let first = file_name(heap, first.as_str())?;
-            let first_state = number(first_state.as_str())? as usize;
-            let second = file_name(heap, second.as_str())?;
-            let second_state = number(second_state.as_str())? as usize;
-            Ok(Command::Contain(Comparison {
-                letters,
-                first,
-                first_state,
-                second,
-                second_state,
-                why,
-            }))
-        }
-        _ => Err(Failure::Usage),
+impl<'a> Automaton<'a> {
+    fn parse(letters: &str, file: &'a str, state: &str) -> Result<Self, Failure> {
+        let source = Source::parse(letters, file)?;
+        // read as a u32, so that a larger number is a fault of usage; there is no From<u32> for usize
+        let state = number(state)? as usize;
+        Ok(Automaton { source, state })
     }
 }
 
-// Whether the first or the last word asks for the reason, and the other words.
-fn without_why(words: &[String]) -> (bool, &[String]) {
+impl<'a> Question<'a> {
+    fn parse(heap: Global, words: &[&'a str]) -> Result<Self, Failure> {
+        let (why, words) = without_why(words);
+        let [letters, file, state, prefix, period] = words else {
+            return Err(Failure::Usage);
+        };
+        Ok(Question {
+            automaton: Automaton::parse(letters, file, state)?,
+            prefix: word(heap, prefix)?,
+            period: word(heap, period)?,
+            why,
+        })
+    }
+}
+
+impl<'a> Comparison<'a> {
+    fn parse(words: &[&'a str]) -> Result<Self, Failure> {
+        let (why, words) = without_why(words);
+        let [letters, first, first_state, second, second_state] = words else {
+            return Err(Failure::Usage);
+        };
+        Ok(Comparison {
+            first: Automaton::parse(letters, first, first_state)?,
+            second: Automaton::parse(letters, second, second_state)?,
+            why,
+        })
+    }
+}
+
+// Whether the first or the last word asks for the reason, and the other words, which are there in either case.
+fn without_why<'a, 'b>(words: &'b [&'a str]) -> (bool, &'b [&'a str]) {
     match words {
-        [why, rest @ ..] if why.as_str() == "--why" => (true, rest),
-        [rest @ .., why] if why.as_str() == "--why" => (true, rest),
+        ["--why", rest @ ..] | [rest @ .., "--why"] => (true, rest),
         _ => (false, words),
     }
 }
 
-fn parse_source(heap: Global, letters: &str, file: &str) -> Result<Source, Failure> {
-    let letters = number(letters)?;
-    let file = file_name(heap, file)?;
-    Ok(Source { letters, file })
-}
-
-fn file_name(heap: Global, word: &str) -> Result<String, Failure> {
+fn file_name(word: &str) -> Result<&str, Failure> {
     if word.starts_with("--") {
         return Err(Failure::Usage);
     }
-    Ok(String::from_str(heap, word)?)
+    Ok(word)
 }
 
 fn number(word: &str) -> Result<u32, Failure> {
-    match word.parse::<u32>() {
-        Ok(n) => Ok(n),
-        Err(_) => Err(Failure::Usage),
-    }
+    word.parse().map_err(|_| Failure::Usage)
 }
 
 // A word typed one hexadecimal digit a letter.
 fn word(heap: Global, text: &str) -> Result<Vec<u8>, Failure> {
-    let mut letters = Vec::new(heap);
-    for digit in text.bytes() {
-        letters.push(letter(digit)?)?;
-    }
-    Ok(letters)
+    text.chars().map(letter).try_collect(heap)
 }
 
-fn letter(digit: u8) -> Result<u8, Failure> {
-    match digit {
-        b'0'..=b'9' => Ok(digit - b'0'),
-        b'a'..=b'f' => Ok(digit - b'a' + 10),
-        b'A'..=b'F' => Ok(digit - b'A' + 10),
-        _ => Err(Failure::Usage),
-    }
+fn letter(digit: char) -> Result<u8, Failure> {
+    let value = digit.to_digit(16).ok_or(Failure::Usage)?;
+    Ok(value as u8)
 }
 
-pub(crate) fn usage() -> &'static str {
+pub(crate) const USAGE: &str =
     "usage: colvaje [demo]                            the mailbox task and other examples
        colvaje solve [--mirror] FILE             who wins each vertex of the arena in FILE, or of its mirror
        colvaje show LETTERS FILE                 the draft in FILE, for a person
@@ -197,6 +162,4 @@ pub(crate) fn usage() -> &'static str {
 
 LETTERS is a number from 1 to 16. A word is typed one hexadecimal digit a letter; \"\" is the empty prefix.
 solve prints a line a vertex, five whole numbers: vertex, winner, grade, distance, move.
-accept and contain end with status 0 exactly when the last line is 'accepted' or 'contained'.
-"
-}
+accept and contain end with status 0 exactly when the last line is 'accepted' or 'contained'.";

@@ -1,78 +1,53 @@
 // Whether one draft is contained in another, and why.
 use crate::command::Comparison;
-use crate::drafts::read_file;
+use crate::drafts::read;
 use crate::failure::Failure;
 use crate::solving::unsolved;
-use crate::why::{Told, explain};
-use contain::{Containment, ask, make};
-use draft::Draft;
-use game::Outcome;
-use inclusion::PairPlace;
+use crate::why::explain;
+use contain::{Containment, MOST_VERTICES, ask, make};
+use draft::Start;
 use mailbox::judge;
-use std::io;
+use std::process::ExitCode;
 
-pub(crate) fn contain_files(rt: &HostRuntime, c: &Comparison) -> Result<(), Failure> {
-    let first = read_file(rt, c.letters, c.first.as_str())?;
-    let second = read_file(rt, c.letters, c.second.as_str())?;
-    decide(rt, &first, c.first_state, &second, c.second_state, c.why)
+pub(crate) fn contain_files(
+    rt: &HostRuntime,
+    comparison: Comparison<'_>,
+) -> Result<ExitCode, Failure> {
+    let first = read(rt, comparison.first.source)?;
+    let second = read(rt, comparison.second.source)?;
+    let first = Start {
+        draft: &first,
+        state: comparison.first.state,
+    };
+    let second = Start {
+        draft: &second,
+        state: comparison.second.state,
+    };
+    decide(rt, first, second, comparison.why)
 }
 
-// Says what was asked and, last, what the answer is.
+// Says what was asked and, last, what the answer is. Its steps are those of accepting::decide, but each has types of its own, so
+// one function for both would take a closure for each step.
 pub(crate) fn decide<'a>(
     rt: &HostRuntime,
-    first: &'a Draft,
-    first_state: usize,
-    second: &'a Draft,
-    second_state: usize,
+    first: Start<'a>,
+    second: Start<'a>,
     why: bool,
-) -> Result<(), Failure> {
-    // as many records as two drafts can want: 32 times 32 pairs of states, 128 times 128 of nodes
-    let mut records = unsolved(rt.alloc(), 17408)?;
-    let verdict = judge(first, first_state, second, second_state, &mut records)?;
+) -> Result<ExitCode, Failure> {
+    let mut records = unsolved(rt.alloc(), MOST_VERTICES)?;
+    let verdict = judge(first, second, &mut records)?;
     println!(rt;
-        "asked: is every word that the first draft accepts from s{first_state} accepted by the second from s{second_state}?"
+        "asked: is every word that the first draft accepts from s{} accepted by the second from s{}?",
+        first.state, second.state
     )?;
-    if why {
-        print_reason(rt, first, first_state, second, second_state, &records)?;
+    if why && ask(first, second).is_ok() {
+        let asked = first.state * second.draft.state_count() + second.state;
+        explain(rt, &make(first, second), &records, asked)?;
     }
-    match verdict {
-        Containment::Contained => Ok(println!(rt; "contained")?),
-        Containment::NotShown => {
-            println!(rt; "not shown")?;
-            Err(Failure::No)
-        }
-    }
-}
-
-// The winner's moves from the pair of states on.
-fn print_reason<'a>(
-    rt: &HostRuntime,
-    first: &'a Draft,
-    first_state: usize,
-    second: &'a Draft,
-    second_state: usize,
-    records: &[Outcome],
-) -> Result<(), Failure> {
-    if ask(first, first_state, second, second_state).is_ok() {
-        let arena = make(first, first_state, second, second_state);
-        let start = pair_vertex(first_state, second.state_count(), second_state);
-        explain(rt, &arena, records, start)?;
-    }
-    Ok(())
-}
-
-// The vertex of a pair of states.
-fn pair_vertex(first_state: usize, second_states: usize, second_state: usize) -> usize {
-    first_state
-        .saturating_mul(second_states)
-        .saturating_add(second_state)
-}
-
-impl Told for PairPlace {
-    fn tell(&self, rt: &HostRuntime) -> io::Result<()> {
-        match *self {
-            PairPlace::AtStates(p, q) => print!(rt; "s{p} and s{q}"),
-            PairPlace::AtNodes(x, y) => print!(rt; "n{x} and n{y}"),
-        }
-    }
+    let (answer, code) = match verdict {
+        Containment::Contained => ("contained", ExitCode::SUCCESS),
+        Containment::NotShown => ("not shown", ExitCode::FAILURE),
+    };
+    println!(rt; "{answer}")?;
+    Ok(code)
 }

@@ -3,7 +3,8 @@ use crate::drafts::{loaded, print};
 use crate::failure::Failure;
 use crate::solving::solve_bytes;
 use crate::{accepting, containing};
-use draft::Draft;
+use draft::Start;
+use word::Word;
 
 // The mailbox drawing, a record a line: states, leaves, rules for post (0), rules for take (1).
 const MAILBOX: [u8; 96] = *b"\x01\0\x02\0\0\0\0\0\
@@ -47,23 +48,41 @@ pub(crate) fn run(rt: &HostRuntime) -> Result<(), Failure> {
     println!(rt; "The mailbox rule:")?;
     print(rt, &rule)?;
     println!(rt; "")?;
-    run_words(rt, &drawing)?;
+    let drawing = Start {
+        draft: &drawing,
+        state: 0,
+    };
+    let rule = Start {
+        draft: &rule,
+        state: 0,
+    };
+    run_words(rt, drawing)?;
     println!(rt;
         "May the pair use the mailbox? The drawing is the first draft, the rule the second."
     )?;
-    let _ = containing::decide(rt, &drawing, 0, &rule, 0, true);
+    // the demonstration goes on whatever is answered
+    let _ = containing::decide(rt, drawing, rule, true);
     println!(rt; "")?;
     println!(rt; "The other way round:")?;
-    let _ = containing::decide(rt, &rule, 0, &drawing, 0, false);
+    let _ = containing::decide(rt, rule, drawing, false);
     println!(rt; "")?;
     run_games(rt)
 }
 
 // Two words of the drawing.
-fn run_words(rt: &HostRuntime, drawing: &Draft) -> Result<(), Failure> {
+fn run_words(rt: &HostRuntime, drawing: Start<'_>) -> Result<(), Failure> {
     println!(rt; "Words of the drawing:")?;
-    let _ = accepting::decide(rt, drawing, 0, &[], &[0, 1], false);
-    let _ = accepting::decide(rt, drawing, 0, &[0], &[1], false);
+    let in_turn = Word {
+        prefix: &[],
+        period: &[0, 1],
+    };
+    let never_posts_again = Word {
+        prefix: &[0],
+        period: &[1],
+    };
+    // the demonstration goes on whatever is answered
+    let _ = accepting::decide(rt, drawing, in_turn, false);
+    let _ = accepting::decide(rt, drawing, never_posts_again, false);
     Ok(println!(rt; "")?)
 }
 

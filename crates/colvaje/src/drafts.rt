@@ -1,20 +1,14 @@
 // Draft files: read, shown and turned.
 use crate::command::Source;
 use crate::failure::Failure;
-use crate::formula::formula;
-use draft::{Draft, load};
-use std::fs;
+use crate::files;
+use crate::formula::Formula;
+use draft::{Draft, State, load};
+use std::io;
 
 // The draft in a file.
-pub(crate) fn read(rt: &HostRuntime, source: &Source) -> Result<Draft, Failure> {
-    read_file(rt, source.letters, source.file.as_str())
-}
-
-pub(crate) fn read_file(rt: &HostRuntime, letters: u32, file: &str) -> Result<Draft, Failure> {
-    match fs::read(rt, file) {
-        Ok(bytes) => loaded(rt, letters, &bytes),
-        Err(error) => Err(Failure::Unreadable(String::from_str(rt.alloc(), file)?, error)),
-    }
+pub(crate) fn read(rt: &HostRuntime, source: Source) -> Result<Draft, Failure> {
+    loaded(rt, source.letters, &files::read(rt, source.file)?)
 }
 
 // The draft in the bytes.
@@ -25,37 +19,33 @@ pub(crate) fn loaded(rt: &HostRuntime, letters: u32, bytes: &[u8]) -> Result<Dra
 }
 
 // Prints a draft: its letters, its states with their priorities and rules, and what is missing.
-pub(crate) fn show(rt: &HostRuntime, source: &Source) -> Result<(), Failure> {
-    let draft = read(rt, source)?;
-    print(rt, &draft)
+pub(crate) fn show(rt: &HostRuntime, source: Source) -> Result<(), Failure> {
+    Ok(print(rt, &read(rt, source)?)?)
 }
 
-pub(crate) fn print(rt: &HostRuntime, draft: &Draft) -> Result<(), Failure> {
+pub(crate) fn print(rt: &HostRuntime, draft: &Draft) -> io::Result<()> {
     println!(rt;
         "letters {}, states {}, nodes {}",
         draft.letters(),
         draft.state_count(),
         draft.node_count()
     )?;
-    for state in 0..draft.state_count() {
-        println!(rt; "s{state} priority {}", draft.priority_at(state))?;
+    for (number, state) in draft.states().iter().enumerate() {
+        println!(rt; "s{number} priority {}", state.priority)?;
         print_rules(rt, draft, state)?;
     }
-    if draft.complete() {
-        println!(rt; "complete")?;
+    let complete = if draft.complete() {
+        "complete"
     } else {
-        println!(rt; "not complete")?;
-    }
-    Ok(())
+        "not complete"
+    };
+    println!(rt; "{complete}")
 }
 
-fn print_rules(rt: &HostRuntime, draft: &Draft, state: usize) -> Result<(), Failure> {
-    for letter in 0..draft.letters() {
-        match draft.rule_at(state, letter) {
-            Some(node) => {
-                let text = formula(rt.alloc(), draft, node)?;
-                println!(rt; "  {letter:x}: {text}")?;
-            }
+fn print_rules(rt: &HostRuntime, draft: &Draft, state: &State) -> io::Result<()> {
+    for (letter, rule) in (0..draft.letters()).zip(state.rules) {
+        match rule {
+            Some(node) => println!(rt; "  {letter:x}: {}", Formula { draft, node })?,
             None => println!(rt; "  {letter:x}: missing")?,
         }
     }
@@ -63,12 +53,10 @@ fn print_rules(rt: &HostRuntime, draft: &Draft, state: usize) -> Result<(), Fail
 }
 
 // Writes the dual of a draft as records.
-pub(crate) fn turn(rt: &HostRuntime, source: &Source, out: &str) -> Result<(), Failure> {
+pub(crate) fn turn(rt: &HostRuntime, source: Source, out: &str) -> Result<(), Failure> {
     let mut draft = read(rt, source)?;
     draft.turn()?;
     let records = draft.records(rt.alloc())?;
-    match fs::write(rt, out, records.as_slice()) {
-        Ok(()) => Ok(println!(rt; "wrote {} records to {out}", records.len() / 8)?),
-        Err(error) => Err(Failure::Unwritable(String::from_str(rt.alloc(), out)?, error)),
-    }
+    files::write(rt, out, &records)?;
+    Ok(println!(rt; "wrote {} records to {out}", records.len() / 8)?)
 }

@@ -1,7 +1,7 @@
-// Why the program stops short, and how it says so.
-use crate::command::usage;
+// Why the program ends without an answer, and the line that says so.
+use crate::command::USAGE;
 use arena::StoredFault;
-use contain::ContainFault;
+use contain::{ContainFault, Which};
 use draft::{Layer, LoadFault};
 use refusal::Refusal;
 use std::alloc::{AllocError, AllocFailed};
@@ -14,10 +14,8 @@ pub(crate) enum Failure {
     // a file cannot be read, or not be written
     Unreadable(String, io::Error),
     Unwritable(String, io::Error),
-    // a question was answered no
-    Refused(Refusal, About),
-    // the answer is no, which was printed
-    No,
+    // a question was answered no, the question as a whole or that about a part
+    Refused(Refusal, Option<About>),
     // the answer cannot be written
     Output(io::Error),
     Memory,
@@ -26,8 +24,6 @@ pub(crate) enum Failure {
 // What a refusal speaks of.
 #[derive(Clone, Copy)]
 pub(crate) enum About {
-    // the question as a whole
-    Question,
     // the record of a vertex
     Vertex(usize),
     // a draft file as a whole
@@ -37,22 +33,41 @@ pub(crate) enum About {
     // the call that a draft's record names
     Call(usize),
     // one of two drafts
-    Draft(u8),
+    Draft(Which),
 }
 
 impl fmt::Display for About {
     fn fmt<W: fmt::Write>(&self, f: &mut fmt::Formatter<W>) -> fmt::Result {
         match *self {
-            About::Question => Ok(()),
-            About::Vertex(place) => write!(f, "record {place}: "),
-            About::File => f.write_str("the file: "),
-            About::Bytes(place) => write!(f, "record {place}, its bytes: "),
-            About::Call(place) => write!(f, "record {place}, its call: "),
-            About::Draft(number) => write!(f, "draft {number}: "),
+            About::Vertex(place) => write!(f, "record {place}"),
+            About::File => f.write_str("the file"),
+            About::Bytes(place) => write!(f, "record {place}, its bytes"),
+            About::Call(place) => write!(f, "record {place}, its call"),
+            About::Draft(which) => write!(f, "draft {}", u8::from(which)),
         }
     }
 }
 
+// One line, or the usage.
+impl fmt::Display for Failure {
+    fn fmt<W: fmt::Write>(&self, f: &mut fmt::Formatter<W>) -> fmt::Result {
+        match self {
+            Failure::Usage => f.write_str(USAGE),
+            Failure::Unreadable(file, error) => write!(f, "cannot read {file}: {error}"),
+            Failure::Unwritable(file, error) => write!(f, "cannot write {file}: {error}"),
+            Failure::Refused(refusal, None) => {
+                write!(f, "refused {}: {refusal}", u8::from(*refusal))
+            }
+            Failure::Refused(refusal, Some(about)) => {
+                write!(f, "refused {}: {about}: {refusal}", u8::from(*refusal))
+            }
+            Failure::Output(error) => write!(f, "cannot write the answer: {error}"),
+            Failure::Memory => f.write_str("out of memory"),
+        }
+    }
+}
+
+// By hand, as std derives no From and thiserror, which does, would serve these three alone.
 impl From<io::Error> for Failure {
     fn from(error: io::Error) -> Self {
         Failure::Output(error)
@@ -73,11 +88,7 @@ impl<T: Drop> From<AllocFailed<T>> for Failure {
 
 impl From<StoredFault> for Failure {
     fn from(fault: StoredFault) -> Self {
-        let about = match fault.place {
-            Some(place) => About::Vertex(place),
-            None => About::Question,
-        };
-        Failure::Refused(fault.refusal, about)
+        Failure::Refused(fault.refusal, fault.place.map(About::Vertex))
     }
 }
 
@@ -88,39 +99,18 @@ impl From<LoadFault> for Failure {
             Layer::Record => About::Bytes(fault.place),
             Layer::Draft => About::Call(fault.place),
         };
-        Failure::Refused(fault.refusal, about)
+        Failure::Refused(fault.refusal, Some(about))
     }
 }
 
 impl From<ContainFault> for Failure {
     fn from(fault: ContainFault) -> Self {
-        let about = match fault.draft {
-            Some(which) => About::Draft(which.number()),
-            None => About::Question,
-        };
-        Failure::Refused(fault.refusal, about)
+        Failure::Refused(fault.refusal, fault.draft.map(About::Draft))
     }
 }
 
 impl From<Refusal> for Failure {
     fn from(refusal: Refusal) -> Self {
-        Failure::Refused(refusal, About::Question)
-    }
-}
-
-impl Failure {
-    // One line on standard error, or the usage.
-    pub(crate) fn print(self, rt: &HostRuntime) -> io::Result<()> {
-        match self {
-            Failure::Usage => eprint!(rt; "{}", usage()),
-            Failure::Unreadable(file, error) => eprintln!(rt; "cannot read {file}: {error}"),
-            Failure::Unwritable(file, error) => eprintln!(rt; "cannot write {file}: {error}"),
-            Failure::Refused(refusal, about) => {
-                eprintln!(rt; "refused {}: {about}{refusal}", refusal.number())
-            }
-            Failure::No => Ok(()),
-            Failure::Output(error) => eprintln!(rt; "cannot write the answer: {error}"),
-            Failure::Memory => eprintln!(rt; "out of memory"),
-        }
+        Failure::Refused(refusal, None)
     }
 }

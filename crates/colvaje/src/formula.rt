@@ -1,62 +1,63 @@
 // A node as a formula, such as s0|(s1&s2).
 use draft::{Draft, Node};
-use std::alloc::{AllocError, Global};
+use std::fmt;
 
 // A formula with more states than these is cut, since nodes that are shared can make it very long.
 const MOST: usize = 64;
 
-// The formula of a node.
-pub(crate) fn formula(heap: Global, draft: &Draft, node: u8) -> Result<String, AllocError> {
-    let mut text = String::new(heap);
-    let mut left = MOST;
-    write_node(draft, node, &mut left, &mut text)?;
-    Ok(text)
+// The formula of a node of a draft.
+#[derive(Clone, Copy)]
+pub(crate) struct Formula<'a> {
+    pub(crate) draft: &'a Draft,
+    pub(crate) node: u8,
 }
 
-// Writes the formula of a node, as long as states are left to write.
-fn write_node(
-    draft: &Draft,
-    node: u8,
-    left: &mut usize,
-    text: &mut String,
-) -> Result<(), AllocError> {
-    if *left == 0 {
-        return text.push_str("...");
+impl fmt::Display for Formula<'_> {
+    fn fmt<W: fmt::Write>(&self, f: &mut fmt::Formatter<W>) -> fmt::Result {
+        let mut writing = Writing {
+            draft: self.draft,
+            left: MOST,
+            f,
+        };
+        writing.node(self.node)
     }
-    let (first, sign, second) = match draft.node_at(node as usize) {
-        Node::Leaf(state) => {
-            *left -= 1;
-            return write_state(text, state);
+}
+
+// A formula that is being written, and how many states are left to write.
+#[derive(Drop)]
+struct Writing<'a, W> {
+    draft: &'a Draft,
+    left: usize,
+    f: &'a mut fmt::Formatter<W>,
+}
+
+impl<W: fmt::Write> Writing<'_, W> {
+    #[cycle(written)]
+    fn node(&mut self, node: u8) -> fmt::Result {
+        if self.left == 0 {
+            return self.f.write_str("...");
         }
-        Node::Either(l, r) => (l, '|', r),
-        Node::Both(l, r) => (l, '&', r),
-    };
-    // Children stand before their parent; the test shows that the recursion ends.
-    if first >= node || second >= node {
-        return Ok(());
+        let (first, sign, second) = match self.draft.node_at(usize::from(node)) {
+            Node::Leaf(state) => {
+                self.left -= 1;
+                return write!(self.f, "s{state}");
+            }
+            Node::Either(l, r) => (l, '|', r),
+            Node::Both(l, r) => (l, '&', r),
+        };
+        self.child(first)?;
+        self.f.write_char(sign)?;
+        self.child(second)
     }
-    write_if(text, !is_leaf(draft, first), '(')?;
-    write_node(draft, first, left, text)?;
-    write_if(text, !is_leaf(draft, first), ')')?;
-    text.push(sign)?;
-    write_if(text, !is_leaf(draft, second), '(')?;
-    write_node(draft, second, left, text)?;
-    write_if(text, !is_leaf(draft, second), ')')
-}
 
-fn is_leaf(draft: &Draft, node: u8) -> bool {
-    matches!(draft.node_at(node as usize), Node::Leaf(_))
-}
-
-fn write_if(text: &mut String, yes: bool, c: char) -> Result<(), AllocError> {
-    if yes { text.push(c) } else { Ok(()) }
-}
-
-// A state as s and its number, which has at most two digits.
-fn write_state(text: &mut String, state: u8) -> Result<(), AllocError> {
-    text.push('s')?;
-    if state >= 10 {
-        text.push(char::from(b'0' + state / 10 % 10))?;
+    // The same in parentheses, but where it is a state.
+    #[cycle(written)]
+    fn child(&mut self, node: u8) -> fmt::Result {
+        if let Node::Leaf(_) = self.draft.node_at(usize::from(node)) {
+            return self.node(node);
+        }
+        self.f.write_str("(")?;
+        self.node(node)?;
+        self.f.write_str(")")
     }
-    text.push(char::from(b'0' + state % 10))
 }

@@ -1,25 +1,19 @@
 // Solves a stored arena and prints what is found.
 use crate::failure::Failure;
+use crate::files;
 use arena::{Arena, Mirror, ask, make};
-use game::{Outcome, solve};
-use parity::Player;
+use game::{BLANK, Outcome, solve};
 use std::alloc::{AllocError, Global};
-use std::{fs, io};
+use std::io;
 
 pub(crate) fn solve_file(rt: &HostRuntime, mirrored: bool, file: &str) -> Result<(), Failure> {
-    match fs::read(rt, file) {
-        Ok(bytes) => solve_bytes(rt, mirrored, &bytes),
-        Err(error) => {
-            let name = String::from_str(rt.alloc(), file)?;
-            Err(Failure::Unreadable(name, error))
-        }
-    }
+    solve_bytes(rt, mirrored, &files::read(rt, file)?)
 }
 
 // Solves the arena in the bytes, or its mirror.
 pub(crate) fn solve_bytes(rt: &HostRuntime, mirrored: bool, bytes: &[u8]) -> Result<(), Failure> {
-    let count = ask(bytes)?;
-    let arena = make(bytes, count);
+    ask(bytes)?;
+    let arena = make(bytes);
     if mirrored {
         print_solution(rt, &Mirror { arena: &arena })
     } else {
@@ -29,9 +23,8 @@ pub(crate) fn solve_bytes(rt: &HostRuntime, mirrored: bool, bytes: &[u8]) -> Res
 
 fn print_solution<X: Arena>(rt: &HostRuntime, arena: &X) -> Result<(), Failure> {
     let mut records = unsolved(rt.alloc(), arena.count())?;
-    let _ = solve(arena, &mut records);
-    print_table(rt, &records)?;
-    Ok(())
+    solve(arena, &mut records)?;
+    Ok(print_table(rt, &records)?)
 }
 
 fn print_table(rt: &HostRuntime, records: &[Outcome]) -> io::Result<()> {
@@ -39,7 +32,7 @@ fn print_table(rt: &HostRuntime, records: &[Outcome]) -> io::Result<()> {
     for (v, o) in records.iter().enumerate() {
         println!(rt;
             "{v:>6} {:>6} {:>5} {:>8} {:>4}",
-            o.winner.number(),
+            u8::from(o.winner),
             o.grade,
             o.distance,
             o.choice
@@ -50,11 +43,5 @@ fn print_table(rt: &HostRuntime, records: &[Outcome]) -> io::Result<()> {
 
 // So many records, for solve to write.
 pub(crate) fn unsolved(heap: Global, count: usize) -> Result<Vec<Outcome>, AllocError> {
-    let record = Outcome {
-        winner: Player::Zero,
-        grade: 0,
-        distance: 0,
-        choice: 0,
-    };
-    vec![in heap; record; count]
+    vec![in heap; BLANK; count]
 }

@@ -3,15 +3,55 @@ use crate::failure::Failure;
 use arena::Arena;
 use game::Outcome;
 use parity::Player;
-use std::io;
+use std::alloc::{AllocError, Global};
+use std::collections::{BTreeSet, VecDeque};
+use std::fmt;
+use std::ops::Range;
 
-// A place that can be printed.
-pub(crate) trait Told {
-    fn tell(&self, rt: &HostRuntime) -> io::Result<()>;
+// The vertices that were reached, and those of them that were not followed yet, in the order in which they were reached.
+#[derive(Drop)]
+struct Reached {
+    all: BTreeSet<usize>,
+    waiting: VecDeque<usize>,
 }
 
-// Prints the places that plays by the winner's moves can reach from a vertex, each with where it leads: one place where the
-// winner moves, all successors where the other does.
+impl Reached {
+    fn new(heap: Global) -> Self {
+        Reached {
+            all: BTreeSet::new(heap),
+            waiting: VecDeque::new(heap),
+        }
+    }
+
+    // Notes a vertex, if it is new.
+    fn note(&mut self, v: usize) -> Result<(), AllocError> {
+        if self.all.insert(v)? {
+            self.waiting.push_back(v)?;
+        }
+        Ok(())
+    }
+}
+
+// A solved arena, with the winner whose moves are followed.
+#[derive(Drop)]
+struct Strategy<'a, X> {
+    arena: &'a X,
+    records: &'a [Outcome],
+    winner: Player,
+}
+
+impl<X: Arena> Strategy<'_, X> {
+    // The positions of the moves at a vertex: one where the winner moves, all where the other does.
+    fn moves(&self, v: usize) -> Range<usize> {
+        if self.arena.owner(v) != self.winner {
+            return 0..self.arena.degree(v);
+        }
+        let chosen = self.records.get(v).map_or(0, |o| usize::from(o.choice));
+        chosen..chosen + 1
+    }
+}
+
+// Prints the places that plays by the winner's moves can reach from a vertex, each with where it leads.
 pub(crate) fn explain<X: Arena>(
     rt: &HostRuntime,
     arena: &X,
@@ -19,32 +59,26 @@ pub(crate) fn explain<X: Arena>(
     start: usize,
 ) -> Result<(), Failure>
 where
-    X::Place: Told + Drop,
+    X::Place: fmt::Display + Drop,
 {
     let Some(first) = records.get(start) else {
         return Ok(());
     };
     let winner = first.winner;
-    println!(rt; "player {} wins, by these moves:", winner.number())?;
-    let mut seen = vec![in rt.alloc(); false; arena.count()]?;
-    let mut places: Vec<usize> = Vec::new(rt.alloc());
-    reach(&mut seen, &mut places, start)?;
-    for i in 0..arena.count() {
-        let Some(v) = places.get(i).copied() else {
+    println!(rt; "player {} wins, by these moves:", u8::from(winner))?;
+    let strategy = Strategy {
+        arena,
+        records,
+        winner,
+    };
+    let mut reached = Reached::new(rt.alloc());
+    reached.note(start)?;
+    // No vertex is noted twice, so none waits after so many; the bound shows that the loop ends.
+    for _ in 0..arena.count() {
+        let Some(v) = reached.waiting.pop_front() else {
             break;
         };
-        follow(rt, arena, records, winner, v, &mut seen, &mut places)?;
-    }
-    Ok(())
-}
-
-// Notes a vertex that was not seen before.
-fn reach(seen: &mut Vec<bool>, places: &mut Vec<usize>, v: usize) -> Result<(), Failure> {
-    if let Some(flag) = seen.get_mut(v) {
-        if !*flag {
-            *flag = true;
-            places.push(v)?;
-        }
+        follow(rt, &strategy, v, &mut reached)?;
     }
     Ok(())
 }
@@ -52,32 +86,19 @@ fn reach(seen: &mut Vec<bool>, places: &mut Vec<usize>, v: usize) -> Result<(), 
 // Prints where a place leads, and notes these places.
 fn follow<X: Arena>(
     rt: &HostRuntime,
-    arena: &X,
-    records: &[Outcome],
-    winner: Player,
+    strategy: &Strategy<'_, X>,
     v: usize,
-    seen: &mut Vec<bool>,
-    places: &mut Vec<usize>,
+    reached: &mut Reached,
 ) -> Result<(), Failure>
 where
-    X::Place: Told + Drop,
+    X::Place: fmt::Display + Drop,
 {
-    print!(rt; "  ")?;
-    arena.place(v).tell(rt)?;
-    print!(rt; " leads to")?;
-    let chosen = match records.get(v) {
-        Some(o) => o.choice as usize,
-        None => 0,
-    };
-    for i in 0..arena.degree(v) {
-        if arena.owner(v) != winner || i == chosen {
-            let next = arena.successor(v, i);
-            print!(rt; " [")?;
-            arena.place(next).tell(rt)?;
-            print!(rt; "]")?;
-            reach(seen, places, next)?;
-        }
+    let arena = strategy.arena;
+    print!(rt; "  {} leads to", arena.place(v))?;
+    for i in strategy.moves(v) {
+        let next = arena.successor(v, i);
+        print!(rt; " [{}]", arena.place(next))?;
+        reached.note(next)?;
     }
-    println!(rt; "")?;
-    Ok(())
+    Ok(println!(rt; "")?)
 }

@@ -1,22 +1,33 @@
 // Accept and contain over draft files.
-use crate::UNSOLVED;
-use contain::contain;
-use draft::{Draft, load};
+use contain::{MOST_VERTICES as OF_A_PAIR, contain};
+use draft::{Draft, Start, load};
+use game::BLANK;
+use refusal::Refusal;
 use std::alloc::Global;
-use word::accept;
+use word::{MOST_VERTICES as OF_A_WORD, Word, accept};
 
-// What stands for a draft that cannot be made or loaded.
+// What stands for a draft that cannot be made or loaded, since C takes a number.
 const NO_DRAFT: u32 = 99;
 
 // The draft in the bytes.
 fn loaded(heap: Global, letters: u32, bytes: &[u8]) -> Option<Draft> {
-    let Ok(mut draft) = Draft::new(heap) else {
-        return None;
-    };
-    match load(&mut draft, letters, bytes) {
-        Ok(()) => Some(draft),
-        Err(_) => None,
+    let mut draft = Draft::new(heap).ok()?;
+    load(&mut draft, letters, bytes).ok()?;
+    Some(draft)
+}
+
+// Asks so many times. The last answer is given as the number that C takes: that of a verdict, or that of a refusal plus 100.
+fn often<V: Into<u8>, F: FnMut() -> Result<V, Refusal>>(repeats: u32, mut ask: F) -> u32
+    requires { F.IsAlwaysCallable ask }
+{
+    let mut answer = NO_DRAFT;
+    for _ in 0..repeats {
+        answer = match ask() {
+            Ok(verdict) => u32::from(verdict.into()),
+            Err(refusal) => 100 + u32::from(u8::from(refusal)),
+        };
     }
+    answer
 }
 
 // Asks so many times whether the draft accepts the word: 0 rejected, 1 accepted, a refusal's number plus 100.
@@ -30,28 +41,16 @@ pub extern "C" fn colvaje_testing_accept(
     repeats: u32,
     heap: Global,
 ) -> u32 {
-    match loaded(heap, letters, bytes) {
-        Some(draft) => accept_often(&draft, state as usize, prefix, period, repeats),
-        None => NO_DRAFT,
-    }
-}
-
-fn accept_often<'a>(
-    draft: &'a Draft,
-    state: usize,
-    prefix: &'a [u8],
-    period: &'a [u8],
-    repeats: u32,
-) -> u32 {
-    let mut records = [UNSOLVED; 10240];
-    let mut answer = NO_DRAFT;
-    for _ in 0..repeats {
-        answer = match accept(draft, state, prefix, period, &mut records) {
-            Ok(verdict) => u32::from(verdict.number()),
-            Err(refusal) => 100 + u32::from(refusal.number()),
-        };
-    }
-    answer
+    let Some(draft) = loaded(heap, letters, bytes) else {
+        return NO_DRAFT;
+    };
+    let start = Start {
+        draft: &draft,
+        state: state as usize,
+    };
+    let word = Word { prefix, period };
+    let mut records = [BLANK; OF_A_WORD];
+    often(repeats, || accept(start, word, &mut records))
 }
 
 // Asks so many times whether the first draft is contained in the second: 0 not shown, 1 contained, a refusal's number plus 100.
@@ -65,29 +64,20 @@ pub extern "C" fn colvaje_testing_contain(
     repeats: u32,
     heap: Global,
 ) -> u32 {
-    let Some(a) = loaded(heap, letters, first) else {
+    let (Some(first), Some(second)) = (loaded(heap, letters, first), loaded(heap, letters, second))
+    else {
         return NO_DRAFT;
     };
-    let Some(b) = loaded(heap, letters, second) else {
-        return NO_DRAFT;
+    let first = Start {
+        draft: &first,
+        state: first_state as usize,
     };
-    contain_often(&a, first_state as usize, &b, second_state as usize, repeats)
-}
-
-fn contain_often<'a>(
-    first: &'a Draft,
-    first_state: usize,
-    second: &'a Draft,
-    second_state: usize,
-    repeats: u32,
-) -> u32 {
-    let mut records = [UNSOLVED; 17408];
-    let mut answer = NO_DRAFT;
-    for _ in 0..repeats {
-        answer = match contain(first, first_state, second, second_state, &mut records) {
-            Ok(verdict) => u32::from(verdict.number()),
-            Err(fault) => 100 + u32::from(fault.refusal.number()),
-        };
-    }
-    answer
+    let second = Start {
+        draft: &second,
+        state: second_state as usize,
+    };
+    let mut records = [BLANK; OF_A_PAIR];
+    often(repeats, || {
+        contain(first, second, &mut records).map_err(|fault| fault.refusal)
+    })
 }

@@ -2,14 +2,15 @@
 use draft::{Draft, LoadFault, load};
 use std::alloc::Global;
 
-// What stands for want of memory.
+// What stands for want of memory, since C takes a number.
 const NO_MEMORY: u64 = 99;
 
-// The number of the refusal, 256 times the layer and 65,536 times the place.
+// Low byte first, since C takes a number: that of the refusal, the layer, and the low two bytes of the place.
 fn code(fault: LoadFault) -> u64 {
-    u64::from(fault.refusal.number())
-        + 256 * u64::from(fault.layer.number())
-        + 65536 * (fault.place % 65536) as u64
+    let refusal = u8::from(fault.refusal);
+    let layer = u8::from(fault.layer);
+    let [low, high, ..] = fault.place.to_le_bytes();
+    u64::from_le_bytes([refusal, layer, low, high, 0, 0, 0, 0])
 }
 
 // Loads the bytes into a new draft, and writes the draft that is left, as far as there is room: 0, or the fault.
@@ -23,15 +24,11 @@ pub extern "C" fn colvaje_testing_load(
     let Ok(mut draft) = Draft::new(heap) else {
         return NO_MEMORY;
     };
-    let answer = match load(&mut draft, letters, bytes) {
-        Ok(()) => 0,
-        Err(fault) => code(fault),
-    };
+    let answer = load(&mut draft, letters, bytes).map_or_else(code, |()| 0);
     let Ok(left) = draft.records(heap) else {
         return NO_MEMORY;
     };
-    for (to, from) in out.iter_mut().zip(left.iter()) {
-        *to = *from;
-    }
+    let room = out.len().min(left.len());
+    out[..room].copy_from_slice(&left[..room]);
     answer
 }

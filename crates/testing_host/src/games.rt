@@ -1,51 +1,44 @@
 // Solve over bytes.
-use crate::UNSOLVED;
 use arena::{StoredFault, ask, make};
-use game::{Outcome, solve};
+use game::{BLANK, Outcome, solve};
 
-// The refusal's number, and 256 times the place plus 1 where there is one.
+// Low byte first, since C takes a number: that of the refusal, and two bytes of the place plus 1, or of 0 where there is no place.
 fn code(fault: StoredFault) -> u32 {
-    let number = u32::from(fault.refusal.number());
-    match fault.place {
-        Some(place) => number + 256 * (place % 4096 + 1) as u32,
-        None => number,
-    }
+    let refusal = u8::from(fault.refusal);
+    let place = fault.place.map_or(0, |place| place.saturating_add(1));
+    let [low, high, ..] = place.to_le_bytes();
+    u32::from_le_bytes([refusal, low, high, 0])
 }
 
-// Byte i of a record: winner, move, then grade and distance, low byte first.
-fn byte_of(o: &Outcome, i: usize) -> u8 {
-    match i {
-        0 => o.winner.number(),
-        1 => o.choice,
-        2 => (o.grade & 0xff) as u8,
-        3 => (o.grade >> 8) as u8,
-        4 => (o.distance & 0xff) as u8,
-        _ => (o.distance >> 8) as u8,
-    }
+// The bytes of a record: winner, move, then grade and distance, low byte first.
+fn bytes_of(o: &Outcome) -> [u8; 6] {
+    let [grade, grade_high] = o.grade.to_le_bytes();
+    let [distance, distance_high] = o.distance.to_le_bytes();
+    let winner = u8::from(o.winner);
+    [winner, o.choice, grade, grade_high, distance, distance_high]
 }
 
 // Writes the records, six bytes each, as far as there is room for them.
 fn write_out(records: &[Outcome], out: &mut [u8]) {
-    for (i, byte) in out.iter_mut().enumerate() {
-        if let Some(o) = records.get(i / 6) {
-            *byte = byte_of(o, i % 6);
-        }
+    for (to, from) in out.iter_mut().zip(records.iter().flat_map(bytes_of)) {
+        *to = from;
     }
 }
 
 // Solves the stored arena in the bytes so many times, and writes what was found the last time.
 #[unsafe(no_mangle)]
 pub extern "C" fn colvaje_testing_solve(bytes: &[u8], repeats: u32, out: &mut [u8]) -> u32 {
-    match ask(bytes) {
-        Ok(n) => {
-            let arena = make(bytes, n);
-            let mut records = [UNSOLVED; 4096];
-            for _ in 0..repeats {
-                let _ = solve(&arena, &mut records);
-            }
-            write_out(&records, out);
-            0
-        }
-        Err(fault) => code(fault),
+    solve_often(bytes, repeats, out).map_or_else(code, |()| 0)
+}
+
+fn solve_often(bytes: &[u8], repeats: u32, out: &mut [u8]) -> Result<(), StoredFault> {
+    ask(bytes)?;
+    let arena = make(bytes);
+    // as many records as a stored arena can want
+    let mut records = [BLANK; 4096];
+    for _ in 0..repeats {
+        let _ = solve(&arena, &mut records);
     }
+    write_out(&records, out);
+    Ok(())
 }

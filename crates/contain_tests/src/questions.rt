@@ -1,5 +1,5 @@
 // The refusals of contain in their order, with the draft that each speaks of.
-use crate::drafts::{lacking, rising, steady};
+use crate::drafts::{at, lacking, rising, steady};
 use contain::{ContainFault, Which, ask};
 use draft::Draft;
 use refusal::Refusal;
@@ -26,24 +26,24 @@ fn in_order(rt: HostRuntime) -> Result<(), Fail> {
         rising(rt.alloc(), 2)?,
     );
     assert_eq!(rt;
-        ask(&lacking, 1, &lacking, 1),
+        ask(at(&lacking, 1), at(&lacking, 1)),
         of(Which::First, Refusal::Incomplete)
     );
     assert_eq!(rt;
-        ask(&wide, 2, &lacking, 1),
+        ask(at(&wide, 2), at(&lacking, 1)),
         of(Which::Second, Refusal::Incomplete)
     );
-    assert_eq!(rt; ask(&wide, 2, &rising, 2), ALPHABETS);
+    assert_eq!(rt; ask(at(&wide, 2), at(&rising, 2)), ALPHABETS);
     assert_eq!(rt;
-        ask(&rising, 2, &rising, 2),
+        ask(at(&rising, 2), at(&rising, 2)),
         of(Which::First, Refusal::NoState)
     );
     assert_eq!(rt;
-        ask(&rising, 1, &rising, 2),
+        ask(at(&rising, 1), at(&rising, 2)),
         of(Which::Second, Refusal::NoState)
     );
     assert_eq!(rt;
-        ask(&rising, 1, &rising, 1),
+        ask(at(&rising, 1), at(&rising, 1)),
         of(Which::First, Refusal::NotStratified)
     );
     Ok(())
@@ -53,10 +53,10 @@ fn in_order(rt: HostRuntime) -> Result<(), Fail> {
 fn the_second_is_stratified(rt: HostRuntime) -> Result<(), Fail> {
     let (steady, rising) = (steady(rt.alloc(), 1, &[1])?, rising(rt.alloc(), 1)?);
     assert_eq!(rt;
-        ask(&steady, 0, &rising, 0),
+        ask(at(&steady, 0), at(&rising, 0)),
         of(Which::Second, Refusal::NotStratified)
     );
-    assert_eq!(rt; ask(&steady, 0, &steady, 0), Ok(()));
+    assert_eq!(rt; ask(at(&steady, 0), at(&steady, 0)), Ok(()));
     Ok(())
 }
 
@@ -69,12 +69,15 @@ fn without_states(rt: HostRuntime) -> Result<(), Fail> {
         lacking(rt.alloc())?,
     );
     assert_eq!(rt;
-        ask(&none, 0, &lacking, 0),
+        ask(at(&none, 0), at(&lacking, 0)),
         of(Which::Second, Refusal::Incomplete)
     );
-    assert_eq!(rt; ask(&none, 0, &none, 0), of(Which::First, Refusal::NoState));
     assert_eq!(rt;
-        ask(&steady, 0, &none, 0),
+        ask(at(&none, 0), at(&none, 0)),
+        of(Which::First, Refusal::NoState)
+    );
+    assert_eq!(rt;
+        ask(at(&steady, 0), at(&none, 0)),
         of(Which::Second, Refusal::NoState)
     );
     Ok(())

@@ -1,17 +1,9 @@
 // What contain says, and the records.
-use crate::drafts::{deep, mailbox, noded, posted};
+use crate::drafts::{at, deep, noded, posted};
 use contain::{ContainFault, Containment, contain, stratified};
-use game::Outcome;
-use parity::Player;
 use refusal::Refusal;
 use std::test::Fail;
-
-const OLD: Outcome = Outcome {
-    winner: Player::One,
-    grade: 77,
-    distance: 77,
-    choice: 7,
-};
+use test_data::{OLD, mailbox};
 
 const NO_ROOM: ContainFault = ContainFault {
     refusal: Refusal::Room,
@@ -25,12 +17,12 @@ fn the_mailbox(rt: HostRuntime) -> Result<(), Fail> {
     let posted = posted(rt.alloc())?;
     let mut records = [OLD; 13];
     assert_eq!(rt;
-        contain(&mailbox, 0, &posted, 0, &mut records),
+        contain(at(&mailbox, 0), at(&posted, 0), &mut records),
         Ok(Containment::Contained)
     );
     assert_eq!(rt; records[12], OLD);
     assert_eq!(rt;
-        contain(&posted, 0, &mailbox, 0, &mut records),
+        contain(at(&posted, 0), at(&mailbox, 0), &mut records),
         Ok(Containment::NotShown)
     );
     Ok(())
@@ -43,11 +35,11 @@ fn exchanged(rt: HostRuntime) -> Result<(), Fail> {
     assert_eq!(rt; mailbox.turn().is_ok() && posted.turn().is_ok(), true);
     let mut records = [OLD; 12];
     assert_eq!(rt;
-        contain(&posted, 0, &mailbox, 0, &mut records),
+        contain(at(&posted, 0), at(&mailbox, 0), &mut records),
         Ok(Containment::Contained)
     );
     assert_eq!(rt;
-        contain(&mailbox, 0, &posted, 0, &mut records),
+        contain(at(&mailbox, 0), at(&posted, 0), &mut records),
         Ok(Containment::NotShown)
     );
     Ok(())
@@ -58,14 +50,17 @@ fn exchanged(rt: HostRuntime) -> Result<(), Fail> {
 fn room(rt: HostRuntime) -> Result<(), Fail> {
     let mut records = [OLD; 4096];
     let (a, b) = (noded(rt.alloc(), 64)?, noded(rt.alloc(), 64)?);
-    assert_eq!(rt; contain(&a, 0, &b, 0, &mut records), Err(NO_ROOM));
+    assert_eq!(rt; contain(at(&a, 0), at(&b, 0), &mut records), Err(NO_ROOM));
     assert_eq!(rt; records[0], OLD);
     let (a, b) = (noded(rt.alloc(), 63)?, noded(rt.alloc(), 65)?);
     assert_eq!(rt;
-        contain(&a, 0, &b, 0, &mut records),
+        contain(at(&a, 0), at(&b, 0), &mut records),
         Ok(Containment::Contained)
     );
-    assert_eq!(rt; contain(&a, 0, &b, 0, &mut records[1..]), Err(NO_ROOM));
+    assert_eq!(rt;
+        contain(at(&a, 0), at(&b, 0), &mut records[1..]),
+        Err(NO_ROOM)
+    );
     Ok(())
 }
 

@@ -9,7 +9,7 @@ mod tests {
     fn number<T: Drop>(answer: Result<T, Refusal>) -> u8 {
         match answer {
             Ok(_) => 0,
-            Err(refusal) => refusal.number(),
+            Err(refusal) => u8::from(refusal),
         }
     }
 

@@ -24,7 +24,7 @@ mod tests {
     fn told(answer: Result<(), LoadFault>) -> (u8, usize, u8) {
         match answer {
             Ok(()) => (0, 0, 0),
-            Err(fault) => (fault.refusal.number(), fault.place, fault.layer.number()),
+            Err(fault) => (u8::from(fault.refusal), fault.place, u8::from(fault.layer)),
         }
     }
 

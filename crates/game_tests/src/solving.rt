@@ -1,18 +1,12 @@
 // What solve writes.
-use crate::bytes::{joined, vertex};
+use crate::bytes::vertex;
 use arena::{Arena, ask, make};
 use game::{Outcome, solve};
 use parity::Player;
 use refusal::Refusal;
 use ring_example::{Ring, solve_ring};
 use std::test::Fail;
-
-const OLD: Outcome = Outcome {
-    winner: Player::One,
-    grade: 77,
-    distance: 77,
-    choice: 7,
-};
+use test_data::OLD;
 
 fn outcome(winner: Player, grade: u16, distance: u16, choice: u8) -> Outcome {
     Outcome {
@@ -25,18 +19,14 @@ fn outcome(winner: Player, grade: u16, distance: u16, choice: u8) -> Outcome {
 
 // Solves the stored arena in the bytes with records that hold something else at first.
 fn solved(bytes: &[u8], out: &mut [Outcome]) -> Result<Result<(), Refusal>, Fail> {
-    match ask(bytes) {
-        Ok(n) => {
-            let arena = make(bytes, n);
-            Ok(solve(&arena, out))
-        }
-        Err(_) => Err(Fail::new("the arena is refused")),
-    }
+    ask(bytes)?;
+    let arena = make(bytes);
+    Ok(solve(&arena, out))
 }
 
 #[test]
 fn records_past_the_count_stay(rt: HostRuntime) -> Result<(), Fail> {
-    let bytes = joined(rt.alloc(), &[vertex(0, 2, 1, 1), vertex(1, 3, 1, 1)])?;
+    let bytes = [vertex(0, 2, 1, 1), vertex(1, 3, 1, 1)].concat(rt.alloc())?;
     let mut out = [OLD; 3];
     assert_eq!(rt; solved(&bytes, &mut out)?, Ok(()));
     assert_eq!(rt; out[0], outcome(Player::Zero, 2, 0, 0));
@@ -47,7 +37,7 @@ fn records_past_the_count_stay(rt: HostRuntime) -> Result<(), Fail> {
 
 #[test]
 fn too_few_records(rt: HostRuntime) -> Result<(), Fail> {
-    let bytes = joined(rt.alloc(), &[vertex(0, 2, 1, 1), vertex(1, 3, 1, 1)])?;
+    let bytes = [vertex(0, 2, 1, 1), vertex(1, 3, 1, 1)].concat(rt.alloc())?;
     let mut out = [OLD; 1];
     assert_eq!(rt; solved(&bytes, &mut out)?, Err(Refusal::Room));
     assert_eq!(rt; out[0], OLD);
@@ -58,7 +48,7 @@ fn too_few_records(rt: HostRuntime) -> Result<(), Fail> {
 // even side loses, though 2 is the smallest that recurs.
 #[test]
 fn the_whole_play_counts(rt: HostRuntime) -> Result<(), Fail> {
-    let bytes = joined(rt.alloc(), &[vertex(0, 1, 1, 1), vertex(0, 2, 1, 1)])?;
+    let bytes = [vertex(0, 1, 1, 1), vertex(0, 2, 1, 1)].concat(rt.alloc())?;
     let mut out = [OLD; 2];
     assert_eq!(rt; solved(&bytes, &mut out)?, Ok(()));
     assert_eq!(rt; out[0], outcome(Player::One, 1, 0, 0));
@@ -71,7 +61,7 @@ fn the_whole_play_counts(rt: HostRuntime) -> Result<(), Fail> {
 fn losers_have_moves_too(rt: HostRuntime) -> Result<(), Fail> {
     let three = [vertex(0, 2, 1, 1), vertex(0, 3, 2, 1), vertex(1, 1, 2, 2)];
     let mut out = [OLD; 3];
-    assert_eq!(rt; solved(&joined(rt.alloc(), &three)?, &mut out)?, Ok(()));
+    assert_eq!(rt; solved(&three.concat(rt.alloc())?, &mut out)?, Ok(()));
     assert_eq!(rt; out[0], outcome(Player::Zero, 2, 0, 0));
     assert_eq!(rt; out[1], outcome(Player::One, 3, 0, 1));
     assert_eq!(rt; out[2], outcome(Player::One, 1, 0, 0));
@@ -83,11 +73,11 @@ fn losers_have_moves_too(rt: HostRuntime) -> Result<(), Fail> {
 #[test]
 fn a_buyers_arena(rt: HostRuntime) -> Result<(), Fail> {
     let mut out = [OLD; 2];
-    if let Some(ring) = Ring::new(2) {
-        assert_eq!(rt; solve_ring(&ring, &mut out), Ok(()));
-        assert_eq!(rt; out[0], outcome(Player::One, 0, 0, 0));
-        assert_eq!(rt; out[1], outcome(Player::One, 0, 1, 0));
-        return Ok(());
-    }
-    Err(Fail::new("the ring is refused"))
+    let Some(ring) = Ring::new(2) else {
+        return Err(Fail::new("the ring is refused"));
+    };
+    assert_eq!(rt; solve_ring(&ring, &mut out), Ok(()));
+    assert_eq!(rt; out[0], outcome(Player::One, 0, 0, 0));
+    assert_eq!(rt; out[1], outcome(Player::One, 0, 1, 0));
+    Ok(())
 }

@@ -1,18 +1,10 @@
 // What accept answers.
-use crate::drafts::{incomplete, mailbox, once};
-use draft::Draft;
-use game::Outcome;
-use parity::Player;
+use crate::drafts::{incomplete, once};
+use draft::{Draft, Start};
 use refusal::Refusal;
 use std::test::Fail;
-use word::{Verdict, accept};
-
-const OLD: Outcome = Outcome {
-    winner: Player::One,
-    grade: 77,
-    distance: 77,
-    choice: 7,
-};
+use test_data::{OLD, mailbox};
+use word::{Verdict, Word, accept};
 
 // The answer with room for 512 vertices.
 fn asked<'a>(
@@ -22,7 +14,11 @@ fn asked<'a>(
     period: &'a [u8],
 ) -> Result<Verdict, Refusal> {
     let mut records = [OLD; 512];
-    accept(draft, state, prefix, period, &mut records)
+    accept(
+        Start { draft, state },
+        Word { prefix, period },
+        &mut records,
+    )
 }
 
 #[test]
@@ -80,14 +76,19 @@ fn refusals_in_order(rt: HostRuntime) -> Result<(), Fail> {
 #[test]
 fn room(rt: HostRuntime) -> Result<(), Fail> {
     let draft = mailbox(rt.alloc())?;
+    let start = Start {
+        draft: &draft,
+        state: 0,
+    };
+    let word = Word {
+        prefix: &[],
+        period: &[0],
+    };
     let mut five = [OLD; 5];
-    assert_eq!(rt; accept(&draft, 0, &[], &[0], &mut five), Err(Refusal::Room));
+    assert_eq!(rt; accept(start, word, &mut five), Err(Refusal::Room));
     assert_eq!(rt; five[0], OLD);
     let mut seven = [OLD; 7];
-    assert_eq!(rt;
-        accept(&draft, 0, &[], &[0], &mut seven),
-        Ok(Verdict::Rejected)
-    );
+    assert_eq!(rt; accept(start, word, &mut seven), Ok(Verdict::Rejected));
     assert_eq!(rt; seven[6], OLD);
     Ok(())
 }

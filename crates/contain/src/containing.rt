@@ -10,7 +10,8 @@ use draft::Start;
 use game::{Outcome, solve};
 
 // Contained where player 0 wins the pair of initial states: then the second draft accepts every repeating word that the first
-// accepts. The records are left as solve writes them.
+// accepts. The records are left as solve writes them. The two sides stay two arguments wherever they travel: a value of both would
+// only be taken apart again.
 pub fn contain<'a>(
     first: Start<'a>,
     second: Start<'a>,

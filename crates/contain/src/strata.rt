@@ -14,7 +14,7 @@ pub fn stratified(draft: &Draft) -> bool
     (0..draft.state_count()).all(|state| state_is_low(draft, state))
 }
 
-// The same of the rules of one state.
+// The same of the rules of one state, which need not be where a draft starts.
 fn state_is_low(draft: &Draft, state: usize) -> bool
     ensures { result ≡ state_low (automaton draft.now) state }
 {

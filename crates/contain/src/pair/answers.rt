@@ -26,7 +26,7 @@ impl PairArena<'_> {
         Some(PairPlace::AtNodes(x, y))
     }
 
-    // The vertex of two states.
+    // The vertex of two states. Two states and two nodes are the parts of a `PairPlace` that a match took apart.
     fn states_at(&self, p: u8, q: u8) -> usize
         ensures { result ≡ states_at (automaton self.now.first.now) (automaton self.now.second.now) p q }
     {

@@ -1,5 +1,5 @@
 // The arena of two drafts: pairs of their states and pairs of their nodes, a view of both, without a copy.
-ghost use Rattle.std.specs.Prelude.{◌≡◌, ◌<◌, true};
+ghost use Rattle.std.specs.Prelude.{◌≡◌, ◌+◌, ◌*◌, ◌<◌, ◌≤◌, true};
 ghost use Rattle.draft.specs.Automaton.{state_count, node_count, is_complete};
 ghost use Rattle.draft.specs.Meaning.{meaning as automaton};
 
@@ -22,6 +22,7 @@ pub struct PairArena<'a> {
     ghost second_states: { states.columns ≡ state_count (automaton second.now) },
     ghost first_nodes: { nodes.rows ≡ node_count (automaton first.now) },
     ghost second_nodes: { nodes.columns ≡ node_count (automaton second.now) },
+    ghost few: { states.rows * states.columns + nodes.rows * nodes.columns ≤ 17408 },
     ghost some_first: { 0 < state_count (automaton first.now) },
     ghost some_second: { 0 < state_count (automaton second.now) },
     ghost first_complete: { is_complete (automaton first.now) ≡ true },

@@ -29,7 +29,9 @@ impl<X: Arena> Table<'_, X> {
         if p % 2 == 0 { even } else { even.other() }
     }
 
-    // The record of the successor of v at position i.
+    // The record of the successor of v at position i. Laid in line, so that what an arena works out of v it works out once for all
+    // positions.
+    #[inline(always)]
     pub(crate) fn ahead(&self, v: usize, i: usize) -> Outcome
         ensures { result ≡ slice_index_or self.now.records.now ((X.meaning self.now.arena.now).successor v i) blank }
     {

@@ -8,7 +8,7 @@ use Rattle.runs.specs.Run.{rule_node, LeastEven, Accepts}
 use Rattle.runs.specs.Word.{letter, Readable}
 use Rattle.runs.proofs.Formed.{formed}
 use Rattle.runs.proofs.RunWins.{models-win}
-use Rattle.runs.proofs.Sets.{without, minus, minus_sub, minus_not}
+use Rattle.runs.proofs.Sets.{without, minus, minus_sub, minus_not, minus_from}
 use Rattle.runs.proofs.WinRuns.{win_runs}
 use Rattle.runs.proofs.WordGames.{word_arena}
 
@@ -34,7 +34,7 @@ pub record AcceptsByAny (a : Automaton) (word : ℕ → ℕ) (start : ℕ) : Typ
 minimal_of_all : (a : Automaton) (M : States) (x : ℕ) → Minimal a M x → AnyMinimal a (In M) x
 minimal_of_all a M x m = record {
   model = m.model;
-  least = λ N sub fit q e. elim (without a N M sub q x fit) [ inl h ↦ h | inr rest ↦ absurd (minus_not M q (m.least (minus M q) (minus_sub M q) rest q e)) ];
+  least = λ N sub fit q e. elim (without a N (In (minus M q)) q (λ p h n. minus_from M q p n (sub p h)) x fit) [ inl h ↦ h | inr rest ↦ absurd (minus_not M q (m.least (minus M q) (minus_sub M q) rest q e)) ];
 }
 
 pub any_from : (a : Automaton) (word : ℕ → ℕ) (q : ℕ) → Accepts a word q → AcceptsByAny a word q

@@ -35,12 +35,12 @@ module _ (a : Automaton) where
   grows M N s x (by_right e h) = by_right e (grows M N s _ h)
   grows M N s x (by_both e h h') = by_both e (grows M N s _ h) (grows M N s _ h')
 
-  -- a model has finitely many leaves: q is among them, or can be left out of any set that has them all
-  pub without : (N : ℕ → Type 0) (M : States) → ((p : ℕ) → N p → In M p) → (q x : ℕ) → Model a N x → N q ⊎ Model a (In (minus M q)) x
-  without N M s q x (by_leaf {q = p} e h) = elim (cases_eq p q) [ inl same ↦ inl (subst N same h) | inr n ↦ inr (by_leaf e (minus_from M q p n (s p h))) ]
-  without N M s q x (by_left e h) = elim (without N M s q _ h) [ inl k ↦ inl k | inr k ↦ inr (by_left e k) ]
-  without N M s q x (by_right e h) = elim (without N M s q _ h) [ inl k ↦ inl k | inr k ↦ inr (by_right e k) ]
-  without N M s q x (by_both e h h') = elim (without N M s q _ h) [ inl k ↦ inl k | inr k ↦ elim (without N M s q _ h') [ inl k' ↦ inl k' | inr k' ↦ inr (by_both e k k') ] ]
+  -- a model has finitely many leaves: q is among them, or can be left out of any set that has all others
+  pub without : (N M : ℕ → Type 0) (q : ℕ) → ((p : ℕ) → N p → (p ≡ q → ⊥) → M p) → (x : ℕ) → Model a N x → N q ⊎ Model a M x
+  without N M q s x (by_leaf {q = p} e h) = elim (cases_eq p q) [ inl same ↦ inl (subst N same h) | inr n ↦ inr (by_leaf e (s p h n)) ]
+  without N M q s x (by_left e h) = elim (without N M q s _ h) [ inl k ↦ inl k | inr k ↦ inr (by_left e k) ]
+  without N M q s x (by_right e h) = elim (without N M q s _ h) [ inl k ↦ inl k | inr k ↦ inr (by_right e k) ]
+  without N M q s x (by_both e h h') = elim (without N M q s _ h) [ inl k ↦ inl k | inr k ↦ elim (without N M q s _ h') [ inl k' ↦ inl k' | inr k' ↦ inr (by_both e k k') ] ]
 
   -- what a node of each kind wants of a model
   abbrev Parts : States → Node → Type 0
@@ -108,5 +108,5 @@ module _ (a : Automaton) where
           let s = shrink b in (
             s.0,
             s.1,
-            record { model = s.2; least = λ N sub fit q e. elim (without (In N) s.0 sub q x fit) [ inl t ↦ t | inr rest ↦ absurd (s.3 q (below q (s.1 q e)) e rest) ] },
+            record { model = s.2; least = λ N sub fit q e. elim (without (In N) (In (minus s.0 q)) q (λ p h n. minus_from s.0 q p n (sub p h)) x fit) [ inl t ↦ t | inr rest ↦ absurd (s.3 q (below q (s.1 q e)) e rest) ] },
           )

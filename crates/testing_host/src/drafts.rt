@@ -64,8 +64,11 @@ pub extern "C" fn colvaje_testing_contain(
     repeats: u32,
     heap: Global,
 ) -> u32 {
-    let (Some(first), Some(second)) = (loaded(heap, letters, first), loaded(heap, letters, second))
-    else {
+    // one after the other: where the first file is refused the second is not read
+    let Some(first) = loaded(heap, letters, first) else {
+        return NO_DRAFT;
+    };
+    let Some(second) = loaded(heap, letters, second) else {
         return NO_DRAFT;
     };
     let first = Start {

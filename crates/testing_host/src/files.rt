@@ -28,7 +28,9 @@ pub extern "C" fn colvaje_testing_load(
     let Ok(left) = draft.records(heap) else {
         return NO_MEMORY;
     };
-    let room = out.len().min(left.len());
-    out[..room].copy_from_slice(&left[..room]);
+    // no `copy_from_slice`, which would have the archive ask for `memmove` from outside
+    for (to, from) in out.iter_mut().zip(left.iter()) {
+        *to = *from;
+    }
     answer
 }

@@ -5,7 +5,7 @@ use Rattle.parity.specs.Grading.{winner}
 use Rattle.parity.specs.Move.{move}
 use Rattle.parity.specs.declared.player.Player.{Player}
 use Rattle.parity.specs.declared.player.Player.TheVariants.{Zero, One}
-use Rattle.parity.proofs.Determined.{reported_wins}
+use Rattle.parity.proofs.Determined.{reported_wins, move_legal}
 use Rattle.draft.specs.Automaton.{Automaton, state_count, node_count, priority_of}
 use Rattle.runs.specs.Run.{rule_node}
 use Rattle.runs.proofs.Moved.{not_zero, free}
@@ -23,7 +23,7 @@ use Rattle.inclusion.proofs.Ways.{Way}
 module _ {c : Automaton} {x : Player} {word : ℕ → ℕ} (S : Side c x word) (q : ℕ → ℕ) (q< : (i : ℕ) → q i < state_count c)
     (ways : (i : ℕ) → Way S i (rule_node c (q i) (word i)) (q (suc i))) where
   side_least : winner S.G (S.st 0 (q 0)) ≡ x → LeastFavours S.G x (λ i. priority_of c (q i))
-  side_least won = least S.arena x q q< (λ i. (ways i).walk) (reported_wins S.G S.arena.sound _ (S.arena.state_in 0 (q 0) (q< 0)) x won)
+  side_least won = least S.arena (move S.G) (move_legal S.G S.arena.sound) x q q< (λ i. (ways i).walk) (reported_wins S.G S.arena.sound _ (S.arena.state_in 0 (q 0) (q< 0)) x won)
 
 module _ (a b : Automaton) (word : ℕ → ℕ) (T : ThreeGames a b word)
     (falls-a : (p i q : ℕ) → p < state_count a → NamedBelow a q (rule_node a p (word i)) → priority_of a q ≤ priority_of a p)

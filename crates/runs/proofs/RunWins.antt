@@ -1,6 +1,7 @@
 -- An accepting run wins the word game: player 0 leads the play along a path of the run.
 use Rattle.std.proofs.Common.{◌≡◌, ℕ, zero, suc, ◌<◌, refl, subst, inl, inr, arith}
 use Rattle.parity.specs.Game.{Game}
+use Rattle.parity.specs.Play.{Play, Wins}
 use Rattle.parity.specs.Grading.{winner}
 use Rattle.parity.specs.Move.{move}
 use Rattle.parity.specs.declared.player.Player.TheVariants.{Zero, One}
@@ -18,13 +19,8 @@ use Rattle.runs.proofs.Passage.{Walk, last_step, first_step}
 use Rattle.runs.proofs.StatePlays.{play, plays, follows, wins}
 use Rattle.runs.proofs.WordArena.{NodeAt, WordArena, even_least}
 
-module _ {G : Game} {a : Automaton} {word : ℕ → ℕ} {st nd : ℕ → ℕ → ℕ} (arena : WordArena G a word st nd) where
-  abbrev m : ℕ → ℕ
-  m = move G
-
-  legal : (i x : ℕ) → x < node_count a → m (nd i x) < G.degree (nd i x)
-  legal i x x< = move_legal G arena.sound _ (arena.node_in i x x<)
-
+module _ {G : Game} {a : Automaton} {word : ℕ → ℕ} {st nd : ℕ → ℕ → ℕ} (arena : WordArena G a word st nd)
+    (m : ℕ → ℕ) (legal : (u : ℕ) → u < G.count → m u < G.degree u) where
   -- whatever player 1's moves are, the play gets from a node to a state of the model
   abbrev Reaches : (ℕ → Type 0) → ℕ → ℕ → Type 0
   Reaches M i x = (q : ℕ) × (q < state_count a) × M q × Walk G m One (nd i x) (st (suc i) q)
@@ -43,7 +39,7 @@ module _ {G : Game} {a : Automaton} {word : ℕ → ℕ} {st nd : ℕ → ℕ �
   reaches : (M : ℕ → Type 0) (i x : ℕ) → x < node_count a → Model a M x → Reaches M i x
   reaches M i x x< (by_leaf {q = q} e h) =
       let (n, at) = shape i x x< (Leaf q) e in
-      (q, n, h, last_step G m One _ _ (forced G m One (nd i x) _ (legal i x x<) at.0 at.1))
+      (q, n, h, last_step G m One _ _ (forced G m One (nd i x) _ (legal _ (arena.node_in i x x<)) at.0 at.1))
   reaches M i x x< (by_left {l = l} {r = r} e h) =
       let (n, at) = shape i x x< (Either l r) e in
       let l< : l < node_count a = omega (arith, n.0) in
@@ -58,7 +54,7 @@ module _ {G : Game} {a : Automaton} {word : ℕ → ℕ} {st nd : ℕ → ℕ �
       let r< : r < node_count a = omega (arith, n.1) in
       let first : Reaches M i l = reaches M i l l< h in
       let second : Reaches M i r = reaches M i r r< h' in
-      elim (of_two G m One (nd i x) _ _ (legal i x x<) at.1 at.2 at.3) [
+      elim (of_two G m One (nd i x) _ _ (legal _ (arena.node_in i x x<)) at.1 at.2 at.3) [
         | inl s ↦ further M i x l l< s first
         | inr s ↦ further M i x r r< s second
       ]
@@ -93,15 +89,35 @@ module _ {G : Game} {a : Automaton} {word : ℕ → ℕ} {st nd : ℕ → ℕ �
     states : (i : ℕ) → ρ i < state_count a
     states i = (here i).1
 
-    pub models-win : ((ρ' : ℕ → ℕ) → ρ' 0 ≡ start → ((i : ℕ) → E i (ρ' i) (ρ' (suc i))) → LeastEven a ρ') → winner G (st 0 start) ≡ Zero
-    unfolding here
-    models-win accepted =
-        elim (which (winner G (st 0 start)) Zero) [
-          | inl e ↦ e
-          | inr e ↦ absurd (not_both G Zero (play arena One ρ states ways)
-              (wins arena One ρ states ways Zero (even_least G arena.even_zero a ρ (accepted ρ refl path)))
-              ((reported_wins G arena.sound (st 0 start) (arena.state_in 0 start start<) One e).wins _ (plays arena One ρ states ways) (follows arena One ρ states ways)))
-        ]
+    pub run_play : ℕ → ℕ
+    run_play = play arena m legal One ρ states ways
+
+    pub play_plays : Play G (st 0 start) run_play
+    unfolding run_play here
+    play_plays = plays arena m legal One ρ states ways
+
+    pub play_follows : (k : ℕ) → G.owner (run_play k) ≡ One → run_play (suc k) ≡ G.successor (run_play k) (m (run_play k))
+    unfolding run_play
+    play_follows = follows arena m legal One ρ states ways
+
+    pub play_won : ((ρ' : ℕ → ℕ) → ρ' 0 ≡ start → ((i : ℕ) → E i (ρ' i) (ρ' (suc i))) → LeastEven a ρ') → Wins G Zero run_play
+    unfolding run_play here
+    play_won accepted = wins arena m legal One ρ states ways Zero (even_least G arena.even_zero a ρ (accepted ρ refl path))
+
+module _ {G : Game} {a : Automaton} {word : ℕ → ℕ} {st nd : ℕ → ℕ → ℕ} (arena : WordArena G a word st nd) where
+  pub models-win : (start : ℕ) → start < state_count a → (V : ℕ → ℕ → Type 0) (E : ℕ → ℕ → ℕ → Type 0) → V 0 start →
+      ((i p q : ℕ) → E i p q → V (suc i) q) → ((i p : ℕ) → V i p → Model a (E i p) (rule_node a p (word i))) →
+      ((ρ : ℕ → ℕ) → ρ 0 ≡ start → ((i : ℕ) → E i (ρ i) (ρ (suc i))) → LeastEven a ρ) → winner G (st 0 start) ≡ Zero
+  models-win start start< V E first onto models accepted =
+      elim (which (winner G (st 0 start)) Zero) [
+        | inl e ↦ e
+        | inr e ↦ absurd (not_both G Zero _ (play_won arena (move G) legal start start< V E first onto models accepted)
+            ((reported_wins G arena.sound (st 0 start) (arena.state_in 0 start start<) One e).wins _
+            (play_plays arena (move G) legal start start< V E first onto models) (play_follows arena (move G) legal start start< V E first onto models)))
+      ]
+    where
+      legal : (u : ℕ) → u < G.count → move G u < G.degree u
+      legal = move_legal G arena.sound
 
   pub run_wins : (start : ℕ) → start < state_count a → Accepts a word start → winner G (st 0 start) ≡ Zero
   run_wins start start< acc =

@@ -5,6 +5,7 @@ use Rattle.parity.specs.Below.{some_below}
 use Rattle.parity.specs.Game.{Game}
 use Rattle.parity.specs.Grading.{winner}
 use Rattle.parity.specs.Move.{move}
+use Rattle.parity.specs.Play.{Winning}
 use Rattle.parity.specs.declared.player.Player.TheVariants.{Zero}
 use Rattle.parity.proofs.Below.{some_gives, some_from}
 use Rattle.parity.proofs.Determined.{reported_wins, move_legal}
@@ -26,10 +27,8 @@ pick (Leaf p) left picks q = eqb p q
 pick (Either l r) left picks q = cond left (picks l q) (picks r q)
 pick (Both l r) left picks q = picks l q || picks r q
 
-module _ {G : Game} {a : Automaton} {word : ℕ → ℕ} {st nd : ℕ → ℕ → ℕ} (arena : WordArena G a word st nd) where
-  abbrev m : ℕ → ℕ
-  m = move G
-
+module _ {G : Game} {a : Automaton} {word : ℕ → ℕ} {st nd : ℕ → ℕ → ℕ} (arena : WordArena G a word st nd)
+    (m : ℕ → ℕ) (legal : (u : ℕ) → u < G.count → m u < G.degree u) where
   -- the states that player 0's moves lead to from node x at step i, down to a depth of f
   picks : ℕ → ℕ → ℕ → States
   picks zero i x q = false
@@ -68,7 +67,7 @@ module _ {G : Game} {a : Automaton} {word : ℕ → ℕ} {st nd : ℕ → ℕ �
       left = eqb (m (nd i x)) 0
 
       mine : m (nd i x) < G.degree (nd i x)
-      mine = move_legal G arena.sound _ (arena.node_in i x x<)
+      mine = legal _ (arena.node_in i x x<)
 
       go : (n : Node) → pick n left (picks f i) q ≡ true → Fits (state_count a) x n → NodeAt G st nd i x n →
           ((y : ℕ) → y < node_count a → picks f i y q ≡ true → Reaches i y q) → Reaches i x q
@@ -146,10 +145,17 @@ module _ {G : Game} {a : Automaton} {word : ℕ → ℕ} {st nd : ℕ → ℕ �
       ways i = (best_reach i (ρ i) (ρ (suc i)) (ρ< i) (and_parts (V i (ρ i)) _ (path.goes i)).1).1
 
       -- the play along a path of the run is one of player 0's moves
-      path_even : winner G (st 0 start) ≡ Zero → LeastEven a ρ
-      path_even won =
-          least_even G arena.even_zero a ρ
-          (least arena Zero ρ ρ< ways (reported_wins G arena.sound _ (arena.state_in 0 (ρ 0) (ρ< 0)) Zero (ap (λ q. winner G (st 0 q)) path.starts ∙ won)))
+      pub path_even : Winning G Zero (λ past u. m u) (st 0 start) → LeastEven a ρ
+      path_even w = least_even G arena.even_zero a ρ (least arena m legal Zero ρ ρ< ways (subst (λ q. Winning G Zero (λ past u. m u) (st 0 q)) (sym path.starts) w))
 
-    pub win_runs : winner G (st 0 start) ≡ Zero → Accepts a word start
-    win_runs won = record { vertices = V; edges = E; run = run; even = λ ρ path. path_even ρ path won }
+pub win_runs : {G : Game} {a : Automaton} {word : ℕ → ℕ} {st nd : ℕ → ℕ → ℕ} (arena : WordArena G a word st nd) →
+    (start : ℕ) → start < state_count a → winner G (st 0 start) ≡ Zero → Accepts a word start
+win_runs {G} {a} {word} {st} {nd} arena start start< won = record {
+  vertices = V arena (move G) legal start start<;
+  edges = E arena (move G) legal start start<;
+  run = run arena (move G) legal start start<;
+  even = λ ρ path. path_even arena (move G) legal start start< ρ path (reported_wins G arena.sound (st 0 start) (arena.state_in 0 start start<) Zero won);
+}
+  where
+    legal : (u : ℕ) → u < G.count → move G u < G.degree u
+    legal = move_legal G arena.sound

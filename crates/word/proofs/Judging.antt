@@ -28,7 +28,7 @@ module _ (a : Automaton) (q : ℕ) (prefix period : List ℕ) (records : List Ou
   -- all questions were answered yes
   module _ (w : WellFormed a) (yes' : asked a q prefix period ≡ Ok tt) where
     -- the state at step 0 is a vertex
-    start : q < (word_game a prefix period).count
+    pub start : q < (word_game a prefix period).count
     start = let y = answered a q prefix period yes' in grind arith
 
     pub solved_by : (after : List Outcome) → ◌≡◌ {A = Result (Unit {0}) Refusal × List Outcome} (Ok tt, after) (solved (word_game a prefix period) records) → (Ok (verdict_of (get_or after q blank).winner), after) ≡ accept_answer a q prefix period records
